@@ -1,0 +1,4 @@
+pub mod Refusals
+pub mod Parts
+pub mod Models
+pub mod Drafts

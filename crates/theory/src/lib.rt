@@ -1,0 +1,1 @@
+// The published definitions over plain numbers, in specs/; no code.
