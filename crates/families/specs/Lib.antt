@@ -1,4 +1,3 @@
-pub mod Refusals
 pub mod Parts
 pub mod Models
 pub mod Drafts

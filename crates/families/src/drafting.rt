@@ -1,13 +1,13 @@
 // Drafts: open, label, step, close.
 ghost use mathlib.Core.Path.{_≡_};
 ghost use Rattle.std.specs.Results.{Cases};
-ghost use Rattle.families.specs.Refusals.{plain};
+ghost use Rattle.refusals.specs.Numbers.{plain};
 ghost use Rattle.families.specs.Drafts.{Openable, open-answer, label-answer, step-answer, Opened, Labelled, Stepped, Closed};
 use crate::Draft;
 use crate::Family;
-use crate::Refusal;
 use crate::Step;
 use crate::parts::Parts;
+use refusals::Refusal;
 use variants::VariantSet;
 
 // Whether a draft of so many states with this start can be opened.

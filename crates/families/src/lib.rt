@@ -4,15 +4,11 @@ ghost use Rattle.families.specs.Parts.{Few-states, Starts-inside, Room, Leave-
 mod drafting;
 mod parts;
 mod reading;
-mod refusing;
 
 pub use drafting::can_open;
 use parts::Parts;
 pub use parts::Step;
 pub use parts::StepClone;
-pub use refusing::Refusal;
-pub use refusing::RefusalDisplay;
-pub use refusing::RefusalError;
 
 // A family that still takes labels and steps.
 #[derive(Drop)]

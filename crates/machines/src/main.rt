@@ -3,9 +3,6 @@ mod moves;
 
 use families::Draft;
 use families::Family;
-use families::Refusal;
-use families::RefusalDisplay;
-use families::RefusalError;
 use families::Step;
 use families::StepClone;
 use families::can_open;
@@ -13,6 +10,9 @@ use masks::Mask;
 use masks::MaskSet;
 use moves::MoveDisplay;
 use moves::moves_of;
+use refusals::Refusal;
+use refusals::RefusalDisplay;
+use refusals::RefusalError;
 use std::error::AnyError;
 use variants::VariantSet;
 

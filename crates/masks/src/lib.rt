@@ -23,10 +23,8 @@ pub impl VariantSet for Mask as MaskSet {
     }
 
     fn only(v: u32) -> Mask {
-        if v < 64 {
-            Mask { bits: 1 << v }
-        } else {
-            Mask { bits: 0 }
+        Mask {
+            bits: if v < 64 { 1 << v } else { 0 },
         }
     }
 

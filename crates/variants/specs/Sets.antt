@@ -1,7 +1,7 @@
 -- What the calls on variant sets answer, over tests on numbers.
 use mathlib.Core.Path.{_≡_}
-use mathlib.Core.Bool.{Bool, true, false, cond, _&&_}
-use Prim.Native.Nat.{ℕ, _-_, _<_, min}
+use mathlib.Core.Bool.{true, false, _&&_}
+use Prim.Native.Nat.{ℕ, _<_, min}
 use lib.Dec.{ltb, eqb}
 use Rattle.std.specs.declared.option.Option.{Option}
 use Rattle.std.specs.declared.option.Option.the-variants.{Some, None}
@@ -19,7 +19,3 @@ just n v w = eqb w v && (ltb v n && ltb v 1024)
 abbrev pub Least : Variants → Option ℕ → Type 0
 Least X (Some v) = (v < 1024) × (X v ≡ true) × ((w : ℕ) → w < v → X w ≡ false)
 Least X None = (w : ℕ) → w < 1024 → X w ≡ false
-
--- the numbers of X below n, and from n on those of Y, shifted by n
-abbrev pub joined : ℕ → Variants → Variants → Variants
-joined n X Y v = cond (ltb v n) (X v) (Y (v - n))

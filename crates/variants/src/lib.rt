@@ -1,4 +1,4 @@
-// Sets of variants, by kinds: what every kind offers, the kind of one variant, and pairs of kinds.
+// Sets of variants, by kinds: what every kind offers, and the kind of one variant.
 ghost use mathlib.Core.Path.{_≡_};
 ghost use mathlib.Core.Bool.{Bool, true, false, not, _&&_, _||_};
 ghost use Prim.Native.Nat.{ℕ, _<_};
@@ -7,11 +7,8 @@ ghost use Rattle.std.specs.Orderings.{Decides};
 ghost use Rattle.theory.specs.Sets.{card};
 ghost use Rattle.variants.specs.Sets.{capped, just, Least};
 
-mod pairs;
 mod singles;
 
-pub use pairs::Pair;
-pub use pairs::PairSet;
 pub use singles::Single;
 pub use singles::SingleSet;
 

@@ -1,9 +1,9 @@
-// A kind built of two kinds.
+// The kind built of two kinds.
 ghost use mathlib.Core.Path.{_≡_};
 ghost use mathlib.Core.Bool.{Bool, true, false, not, _&&_, _||_};
 ghost use Prim.Native.Nat.{ℕ, _+_};
-ghost use Rattle.variants.specs.Sets.{joined};
-use crate::VariantSet;
+ghost use Rattle.pairs.specs.Joins.{joined};
+use variants::VariantSet;
 
 // One set of each of two kinds: the numbers of the first kind come first, those of the second follow.
 #[derive(Clone, Copy)]
@@ -33,18 +33,19 @@ pub impl<First: VariantSet, Second: VariantSet> VariantSet for Pair<First, Secon
 
     // The first kind's size may be capped, so a number above 1023 is turned away before it is compared.
     fn only(v: u32) -> Pair<First, Second> {
+        let none = Self::none();
         let firsts = First::size();
         if v > 1023 {
-            Self::none()
+            none
         } else if v < firsts {
             Pair {
                 first: First::only(v),
-                second: Second::none(),
+                ..none
             }
         } else {
             Pair {
-                first: First::none(),
                 second: Second::only(v - firsts),
+                ..none
             }
         }
     }
@@ -72,12 +73,10 @@ pub impl<First: VariantSet, Second: VariantSet> VariantSet for Pair<First, Secon
 
     fn has(self, v: u32) -> bool {
         let firsts = First::size();
-        if v > 1023 {
-            false
-        } else if v < firsts {
+        if v < firsts {
             self.first.has(v)
         } else {
-            self.second.has(v - firsts)
+            v < 1024 && self.second.has(v - firsts)
         }
     }
 
@@ -99,7 +98,7 @@ pub impl<First: VariantSet, Second: VariantSet> VariantSet for Pair<First, Secon
             None => match self.second.least() {
                 Some(w) => {
                     let v = First::size() + w;
-                    if v < 1024 { Some(v) } else { None }
+                    if v > 1023 { None } else { Some(v) }
                 }
                 None => None,
             },

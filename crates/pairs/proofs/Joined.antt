@@ -8,7 +8,7 @@ use lib.Dec.{ltb}
 use Rattle.std.proofs.shelf.Tests.{lt-ltb, le-ltb, cond-true, cond-false}
 use Rattle.theory.specs.Sets.{Variants, card}
 use Rattle.theory.proofs.Cards.{card-same}
-use Rattle.variants.specs.Sets.{joined}
+use Rattle.pairs.specs.Joins.{joined}
 
 module _ (m : ℕ) (X Y : Variants) where
   joined-first : (v : ℕ) → v < m → joined m X Y v ≡ X v

@@ -4,8 +4,8 @@ use Prim.Native.Nat.{ℕ}
 use Rattle.std.specs.declared.result.Result.{Result}
 use Rattle.std.specs.declared.result.Result.the-variants.{Ok, Err}
 use Rattle.theory.specs.Answers.{Answer, granted, refused}
-use Rattle.families.specs.declared.refusing.Refusal.{Refusal}
-use Rattle.families.specs.declared.refusing.Refusal.the-variants.{StatesOutOfRange, StartOutOfRange, NoSuchState, NoRoomForStep}
+use Rattle.refusals.specs.declared.Refusal.{Refusal}
+use Rattle.refusals.specs.declared.Refusal.the-variants.{StatesOutOfRange, StartOutOfRange, NoSuchState, NoRoomForStep}
 
 -- the number of a refusal
 abbrev pub number-of : Refusal → ℕ

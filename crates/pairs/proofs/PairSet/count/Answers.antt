@@ -1,6 +1,6 @@
 use native.Mathlib.Omega.{arith}
-use Rattle.variants.proofs.Joined.{card-joined}
-use Rattle.variants.proofs.pairs.PairSet.count.Needs as need
+use Rattle.pairs.proofs.Joined.{card-joined}
+use Rattle.pairs.proofs.PairSet.count.Needs as need
 
 pub returns : need.returns
 returns g c =

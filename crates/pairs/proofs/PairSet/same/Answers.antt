@@ -1,5 +1,5 @@
-use Rattle.variants.proofs.Joined.{joined-same, same-second}
-use Rattle.variants.proofs.pairs.PairSet.same.Needs as need
+use Rattle.pairs.proofs.Joined.{joined-same, same-second}
+use Rattle.pairs.proofs.PairSet.same.Needs as need
 
 pub returns-then-same : need.returns-then-same
 returns-then-same g c =

@@ -1,6 +1,6 @@
 // Why calls refuse.
 ghost use mathlib.Core.Path.{_≡_};
-ghost use Rattle.families.specs.Refusals.{number-of};
+ghost use Rattle.refusals.specs.Numbers.{number-of};
 use std::error::Error;
 use std::fmt;
 
