@@ -1,2 +1,10 @@
+pub mod Booleans
 pub mod Cards
+pub mod Counting
 pub mod Systems
+pub mod Sweeps
+pub mod Rules
+pub mod Losses
+pub mod Histories
+pub mod Calling
+pub mod Marking

@@ -1,3 +1,12 @@
 pub mod Sets
+pub mod Counts
 pub mod Systems
+pub mod Simulations
+pub mod Tables
+pub mod Bisimulations
+pub mod Reach
+pub mod Sweeps
 pub mod Answers
+pub mod Calls
+pub mod Histories
+pub mod Marks
