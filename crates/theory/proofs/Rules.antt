@@ -1,17 +1,41 @@
 -- The sweep rule, and the simulations that it keeps.
-use mathlib.Core.Path.{_≡_, refl, sym, subst, _∙_}
-use mathlib.Core.Bool.{true}
+use mathlib.Core.Path.{_≡_, refl, sym, ap, ap₂, subst, _∙_}
+use mathlib.Core.Bool.{Bool, true, not, _&&_, _||_}
 use mathlib.Core.Logic.{inl, inr}
-use mathlib.Core.List.{List, [], _∷_, List·Memᴰ, List·Memᴰ·head, List·Memᴰ·tail}
+use mathlib.Core.List.{List, [], _∷_, _++_, List·Memᴰ, List·Memᴰ·head, List·Memᴰ·tail}
 use Prim.Native.Nat.{ℕ, _<_}
+use lib.Dec.{eqb}
 use Rattle.std.proofs.shelf.Tests.{and-parts, and-from, or-cases, or-left, or-right, eqb-true, eq-eqb, both-ways, cases-bool, not-from-false, not-true}
 use Rattle.theory.specs.Sets.{Variants}
 use Rattle.theory.specs.Systems.{Step, Family, machine, agree, Goes}
 use Rattle.theory.specs.Simulations.{Pairs, Simulation}
 use Rattle.theory.specs.Tables.{Table, Answered, Sweep-rule, Family-simulation}
 use Rattle.theory.specs.Sweeps.{answers, answered, applies, kept, keeps}
+use Rattle.theory.proofs.Booleans.{or-false, or-assoc, and-true, and-assoc}
 use Rattle.theory.proofs.Systems.{step-goes, goes-step}
 use Rattle.theory.proofs.Sweeps.{Monotone, Closed}
+
+-- one step more in a list
+pub answered-push : (T : Table) (t : ℕ) (l : Step) (v : ℕ) (rs : List Step) (r : Step) →
+    answered (rs ++ r ∷ []) T t l v ≡ (answered rs T t l v || answers T t l v r)
+answered-push T t l v [] r = or-false (answers T t l v r)
+answered-push T t l v (x ∷ rs) r =
+    ap (λ (b : Bool). answers T t l v x || b) (answered-push T t l v rs r)
+    ∙ or-assoc (answers T t l v x) (answered rs T t l v) (answers T t l v r)
+
+pub kept-push : (rs : List Step) (T : Table) (s t v : ℕ) (ls : List Step) (l : Step) →
+    kept (ls ++ l ∷ []) rs T s t v ≡ (kept ls rs T s t v && (not (applies s v l) || answered rs T t l v))
+kept-push rs T s t v [] l = and-true (not (applies s v l) || answered rs T t l v)
+kept-push rs T s t v (x ∷ ls) l =
+    ap (λ (b : Bool). (not (applies s v x) || answered rs T t x v) && b) (kept-push rs T s t v ls l)
+    ∙ and-assoc (not (applies s v x) || answered rs T t x v) (kept ls rs T s t v) (not (applies s v l) || answered rs T t l v)
+
+-- of a table only the row of the entered left state is read
+pub answered-row : (T U : Table) (t : ℕ) (l : Step) (v : ℕ) → ((y : ℕ) → T (l .to) y v ≡ U (l .to) y v) → (rs : List Step) →
+    answered rs T t l v ≡ answered rs U t l v
+answered-row T U t l v e [] = refl
+answered-row T U t l v e (r ∷ rs) =
+    ap₂ (λ (x y : Bool). (eqb (r .from) t && (eqb (r .action) (l .action) && (r .held v && x))) || y) (e (r .to)) (answered-row T U t l v e rs)
 
 answered-out : (R : Family) (T : Table) (t : ℕ) (l : Step) (v : ℕ) → answered (R .steps) T t l v ≡ true → Answered R T t v l
 answered-out R T t l v e = go (R .steps) e (λ r m. m)

@@ -1,8 +1,8 @@
 -- Sweeps by any rule that keeps no fewer variants on a larger table.
 use mathlib.Core.Path.{_≡_, refl, sym, ap, ap₂, subst, _∙_}
-use mathlib.Core.Bool.{Bool, true, false, _&&_, cond}
+use mathlib.Core.Bool.{Bool, true, false, not, _&&_, cond}
 use mathlib.Core.Logic.{inl, inr}
-use Prim.Native.Nat.{ℕ, zero, suc, _+_, _<_, _≤_}
+use Prim.Native.Nat.{ℕ, zero, suc, _+_, _*_, _<_, _≤_}
 use native.Mathlib.Numerals.{add-one}
 use native.Mathlib.Omega.{arith}
 use lib.Dec.{eqb}
@@ -11,8 +11,8 @@ use Rattle.theory.specs.Sets.{gone}
 use Rattle.theory.specs.Counts.{sum-below}
 use Rattle.theory.specs.Simulations.{Pairs}
 use Rattle.theory.specs.Tables.{Table}
-use Rattle.theory.specs.Sweeps.{Rule, visited, row-visited, rows-visited, removed}
-use Rattle.theory.proofs.Cards.{gone-same}
+use Rattle.theory.specs.Sweeps.{Rule, visited, row-visited, rows-visited, row-struck, rows-struck, removed}
+use Rattle.theory.proofs.Cards.{card-le, gone-same}
 use Rattle.theory.proofs.Counting.{sum-same}
 
 -- what T holds of variant v, U holds too
@@ -93,18 +93,6 @@ module _ (rule : Rule) where
       rows-hold m T zero holds = holds
       rows-hold m T (suc k) holds = row-holds (rows-visited rule m T k) k m (rows-hold m T k holds)
 
--- What the visits strike, pair by pair and row by row.
-module _ (V : ℕ) (rule : Rule) where
-  -- how many variants the visits of (s, 0) .. (s, k - 1) strike, each at its own pair
-  abbrev pub row-struck : Table → ℕ → ℕ → ℕ
-  row-struck T s zero = 0
-  row-struck T s (suc k) = row-struck T s k + gone V (row-visited rule T s k s k) (row-visited rule T s (suc k) s k)
-
-  -- how many variants the visits of the rows 0 .. k - 1 of m pairs each strike
-  abbrev pub rows-struck : ℕ → Table → ℕ → ℕ
-  rows-struck m T zero = 0
-  rows-struck m T (suc k) = rows-struck m T k + row-struck (rows-visited rule m T k) k m
-
 -- a visit changes no other row, and of its row no other pair
 module _ (rule : Rule) where
   visited-row : (T : Table) (s t s′ t′ v : ℕ) → (s′ ≡ s → ⊥) → visited rule T s t s′ t′ v ≡ T s′ t′ v
@@ -170,3 +158,29 @@ module _ (V : ℕ) (rule : Rule) where
       rows-struck-is m T n
       ∙ sum-same n _ _ (λ s l. sum-same m _ _ (λ t _.
       gone-same V _ _ _ _ (λ v. refl) (λ v. sym (rows-done rule m T n s t v l))))
+
+  -- at most V a pair
+  pub row-struck-few : (T : Table) (s k : ℕ) → row-struck V rule T s k ≤ k * V
+  row-struck-few T s zero = omega arith
+  row-struck-few T s (suc k) = omega (arith, row-struck-few T s k, card-le V (λ v. row-visited rule T s k s k v && not (row-visited rule T s (suc k) s k v)))
+
+  -- one visit more of a row
+  pub row-more : (T : Table) (s k : ℕ) (mid new : Table) → mid ≡ row-visited rule T s k → new ≡ visited rule mid s k →
+      new ≡ row-visited rule T s (k + 1)
+  row-more T s k mid new p q = q ∙ ap (λ (X : Table). visited rule X s k) p ∙ ap (row-visited rule T s) (sym (add-one k))
+
+  pub row-struck-more : (T : Table) (s k : ℕ) (mid new : Table) (n r : ℕ) → mid ≡ row-visited rule T s k → new ≡ visited rule mid s k →
+      n ≡ row-struck V rule T s k → r ≡ gone V (mid s k) (new s k) → n + r ≡ row-struck V rule T s (k + 1)
+  row-struck-more T s k mid new n r p q e f =
+      ap₂ (λ (x y : ℕ). x + y) e (f ∙ ap₂ (λ (X Y : Table). gone V (X s k) (Y s k)) p (q ∙ ap (λ (X : Table). visited rule X s k) p))
+      ∙ ap (row-struck V rule T s) (sym (add-one k))
+
+  -- one row more
+  pub rows-more : (m : ℕ) (T : Table) (k : ℕ) (mid new : Table) → mid ≡ rows-visited rule m T k → new ≡ row-visited rule mid k m →
+      new ≡ rows-visited rule m T (k + 1)
+  rows-more m T k mid new p q = q ∙ ap (λ (X : Table). row-visited rule X k m) p ∙ ap (rows-visited rule m T) (sym (add-one k))
+
+  pub rows-struck-more : (m : ℕ) (T : Table) (k : ℕ) (mid : Table) (n r : ℕ) → mid ≡ rows-visited rule m T k →
+      n ≡ rows-struck V rule m T k → r ≡ row-struck V rule mid k m → n + r ≡ rows-struck V rule m T (k + 1)
+  rows-struck-more m T k mid n r p e f =
+      ap₂ (λ (x y : ℕ). x + y) e (f ∙ ap (λ (X : Table). row-struck V rule X k m) p) ∙ ap (rows-struck V rule m T) (sym (add-one k))

@@ -27,6 +27,17 @@ abbrev pub rows-visited : Rule → ℕ → Table → ℕ → Table
 rows-visited rule m T zero = T
 rows-visited rule m T (suc k) = row-visited rule (rows-visited rule m T k) k m
 
+module _ (V : ℕ) (rule : Rule) where
+  -- how many variants below V the visits of (s, 0) .. (s, k - 1) strike, each at its own pair
+  abbrev pub row-struck : Table → ℕ → ℕ → ℕ
+  row-struck T s zero = 0
+  row-struck T s (suc k) = row-struck T s k + gone V (row-visited rule T s k s k) (row-visited rule T s (suc k) s k)
+
+  -- how many the visits of the rows 0 .. k - 1 of m pairs each strike
+  abbrev pub rows-struck : ℕ → Table → ℕ → ℕ
+  rows-struck m T zero = 0
+  rows-struck m T (suc k) = rows-struck m T k + row-struck (rows-visited rule m T k) k m
+
 -- how many variants below V, over n rows of m pairs, T has and U lacks
 abbrev pub removed : (V n m : ℕ) → Table → Table → ℕ
 removed V n m T U = sum-below n (λ s. sum-below m (λ t. gone V (T s t) (U s t)))
