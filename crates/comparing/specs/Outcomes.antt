@@ -2,8 +2,8 @@
 use mathlib.Core.Path.{_≡_}
 use mathlib.Core.Bool.{Bool, cond}
 use mathlib.Core.List.{List, [], _∷_}
-use Prim.Native.Nat.{ℕ, suc, _*_, _≤_}
-use lib.Dec.{ltb}
+use Prim.Native.Nat.{ℕ, _*_, _≤_}
+use lib.Dec.{ltb, eqb}
 use Rattle.std.specs.declared.option.Option.{Option}
 use Rattle.std.specs.declared.option.Option.the-variants.{Some, None}
 use Rattle.std.specs.declared.result.Result.{Result}
@@ -44,7 +44,7 @@ pub record Fitting (V n m places : ℕ) : Type 0 where
 -- 9: no sweep was made, or the last one struck
 abbrev pub settle-answer : Option ℕ → Answer
 settle-answer None = refused 9
-settle-answer (Some k) = cond (ltb 0 k) (refused 9) (granted [])
+settle-answer (Some k) = cond (eqb k 0) (granted []) (refused 9)
 
 module _ {S : Type 0} (K : Kind S) where
   -- the outcome of a sweep

@@ -15,7 +15,9 @@ use variants::VariantSet;
 fn look<S: VariantSet>(table: &Table<S>, s: u8, t: u8, v: u32) -> Result<bool, Refusal>
     ensures { λ r. ⌜ ((f : Frame) (m : Moment) → f .variants ≡ S·VariantSet .variants → f .left-states ≡ now (table .entry) .rows → f .right-states ≡ now (table .entry) .cols → m .table ≡ standing S·VariantSet (now (table .entry)) → Asks S·VariantSet f m s t v r) ⌝ }
 {
-    if s >= table.rows() || t >= table.cols() {
+    let rows = table.rows();
+    let cols = table.cols();
+    if s >= rows || t >= cols {
         return Err(Refusal::NoSuchState);
     }
     if v >= S::size() {
