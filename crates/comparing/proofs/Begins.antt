@@ -2,23 +2,17 @@
 use mathlib.Core.Path.{_≡_, refl, sym, ap, ap₂, _∙_, fun-ext}
 use mathlib.Core.Bool.{Bool, true, false, cond, _&&_}
 use mathlib.Core.Logic.{inl, inr}
-use Prim.Native.Nat.{ℕ, _+_, _*_, _<_}
+use Prim.Native.Nat.{ℕ, _<_}
 use native.Mathlib.Omega.{arith}
 use lib.Dec.{eqb, ltb}
-use lib.ListN.{length}
-use denote.Ref.{now}
 use Rattle.std.specs.declared.option.Option.{Option}
 use Rattle.std.specs.declared.option.Option.the-variants.{Some, None}
-use Rattle.std.proofs.shelf.Tests.{and-from, and-left, and-right, and-parts, lt-ltb, ltb-true, eq-eqb, ne-eqb, cond-true, cond-false, cases-eq, cases-lt, cases-bool, le-ltb}
+use Rattle.std.proofs.shelf.Tests.{and-from, lt-ltb, le-ltb, eq-eqb, ne-eqb, cond-true, cond-false, cases-lt}
 use Rattle.theory.specs.Sets.{Variants}
 use Rattle.theory.specs.Systems as theory
-use Rattle.theory.specs.Tables as tables
 use Rattle.theory.specs.Sweeps.{begun}
-use Rattle.variants.specs.declared.VariantSet.{Ghosts as Kind}
 use Rattle.families.specs.Drafts.{label-at}
-use Rattle.tables.specs.declared.Table.{Table}
-use Rattle.tables.specs.Tables.{standing, written, Fits, Has, Resembles}
-use Rattle.tables.proofs.Places.{place-below, grid-inside}
+use Rattle.tables.specs.Cells.{bounded}
 
 -- a state that has a label is a state, and the label is its
 record Labelled (F : theory.Family) (s a : ℕ) : Type 0 where
@@ -55,39 +49,10 @@ module _ (L R : theory.Family) (X : Variants) (s t a b : ℕ) (p : Some a ≡ la
       let other : eqb (L .label s) (R .label t) ≡ false = ne-eqb _ _ (λ e. ne (labelled L s a p .label-is ∙ e ∙ sym (labelled R t b q .label-is))) in
       sym (ap₂ (λ (x y : Bool). x && (y && X v)) inside other)
 
--- a table with room has every pair of its states
-pub has-pair : {S : Type 0} (T : Table S) (s t : ℕ) → Fits T → s < T .rows → t < T .cols → Has T s t
-has-pair T s t fits ls lt = record { row = ls; col = lt; place = omega (arith, place-below s t (T .rows) (T .cols) ls lt, fits) }
-
-pub fits-still : {S : Type 0} (T U : Table S) → Resembles T U → Fits T → Fits U
-fits-still T U e fits =
-    let pairs : (U .rows) * (U .cols) ≡ (T .rows) * (T .cols) = ap₂ (λ (n m : ℕ). n * m) (e .rows) (e .cols) in
-    omega (arith, pairs, e .size, fits)
-
--- one pair more of a row
-module _ (T U : tables.Table) (s t : ℕ) (X : Variants) (w : U ≡ written T s t X) where
-  at : (s′ t′ v : ℕ) → U s′ t′ v ≡ written T s t X s′ t′ v
-  at s′ t′ v = ap (λ (Y : tables.Table). Y s′ t′ v) w
-
-  pub fill-more : (B : tables.Table) → ((v : ℕ) → X v ≡ B s t v) → ((t′ v : ℕ) → t′ < t → T s t′ v ≡ B s t′ v) →
-      (t′ v : ℕ) → t′ < t + 1 → U s t′ v ≡ B s t′ v
-  fill-more B here before t′ v l = elim (cases-eq t′ t) [
-    | inl e ↦
-        ap (λ (k : ℕ). U s k v) e ∙ at s t v ∙ cond-true (eqb s s && eqb t t) (X v) (T s t v) (and-from _ _ (eq-eqb s s refl) (eq-eqb t t refl))
-        ∙ here v ∙ ap (λ (k : ℕ). B s k v) (sym e)
-    | inr ne ↦ at s t′ v ∙ cond-false (eqb s s && eqb t′ t) _ _ (and-right _ _ (ne-eqb t′ t ne)) ∙ before t′ v (omega arith)
-  ]
-
-  pub fill-others : (r t′ v : ℕ) → (r ≡ s → ⊥) → U r t′ v ≡ T r t′ v
-  fill-others r t′ v ne = at r t′ v ∙ cond-false (eqb r s && eqb t′ t) _ _ (and-left _ _ (ne-eqb r s ne))
-
--- where every pair is as it begins, the whole table is
-pub all-begun : {S : Type 0} (K : Kind S) (T : Table S) (L R : theory.Family) (X : Variants) → T .rows ≡ L .states → T .cols ≡ R .states →
-    ((r t v : ℕ) → r < T .rows → t < T .cols → standing K T r t v ≡ begun L R X r t v) → standing K T ≡ begun L R X
-all-begun K T L R X p q filled = fun-ext (λ r. fun-ext (λ t. fun-ext (λ v. at r t v)))
+-- what begin writes is nothing outside the states
+pub begun-bounded : (L R : theory.Family) (X : Variants) → bounded (L .states) (R .states) (begun L R X) ≡ begun L R X
+begun-bounded L R X = fun-ext (λ s. fun-ext (λ t. fun-ext (λ v. twice (ltb s (L .states) && ltb t (R .states)) (theory.agree L R s t && X v))))
   where
-    at : (r t v : ℕ) → standing K T r t v ≡ begun L R X r t v
-    at r t v = elim (cases-bool (ltb r (T .rows) && ltb t (T .cols))) [
-      | inl e ↦ let l = and-parts _ _ e in filled r t v (ltb-true r (T .rows) (l .0)) (ltb-true t (T .cols) (l .1))
-      | inr e ↦ and-left _ _ e ∙ sym (and-left _ _ (ap₂ (λ (n m : ℕ). ltb r n && ltb t m) (sym p) (sym q) ∙ e))
-    ]
+    twice : (b x : Bool) → (b && (b && x)) ≡ (b && x)
+    twice true x = refl
+    twice false x = refl

@@ -15,7 +15,7 @@ use Rattle.theory.specs.Tables.{Table}
 use Rattle.theory.specs.Sweeps.{strikes}
 use Rattle.theory.specs.Answers.{Answer, granted, refused}
 use Rattle.theory.specs.Calls.{Frame, Moment, unswept, struck, Brings, after-sweep, sweep, ask, settle, verdict, Ran, spent, quiet, on, Does, swept-once, asked, ask-no-pair, ask-no-variant, settled-now, settle-refused, judged}
-use Rattle.sweeping.proofs.Visits.{resembles-refl, resembles-trans}
+use Rattle.tables.proofs.Tables.{resembles-trans}
 use Rattle.comparing.specs.declared.Comparison.{Comparison}
 use Rattle.variants.specs.declared.VariantSet.{Ghosts as Kind}
 use Rattle.comparing.specs.Moments.{last-of, frame, Continues}

@@ -1,60 +1,38 @@
 // How a comparison begins.
 ghost use mathlib.Core.Path.{_≡_};
-ghost use Prim.Native.Nat.{ℕ, _<_};
 ghost use lib.ListN.{length};
+ghost use denote.Ref.{now};
 ghost use Rattle.std.specs.Results.{Cases};
 ghost use Rattle.theory.specs.Sweeps.{begun};
 ghost use Rattle.theory.specs.Histories.{Comparing-is-exact};
 ghost use Rattle.refusals.specs.Numbers.{plain};
 ghost use Rattle.families.specs.Drafts.{model};
-ghost use Rattle.tables.specs.Tables.{standing, Fits, Resembles};
 ghost use Rattle.comparing.specs.Moments.{Begun};
 ghost use Rattle.comparing.specs.Outcomes.{begin-answer, Fitting};
 use crate::Comparison;
 use families::Family;
 use refusals::Refusal;
+use tables::Origin;
 use tables::Table;
+use tables::fill;
 use variants::VariantSet;
 
-// What a pair begins with: the list where the labels are equal, else nothing.
-fn first<S: VariantSet>(left: &Family<S>, right: &Family<S>, list: S, s: u8, t: u8) -> S
-    ensures { λ r. ⌜ ((v : ℕ) → S·VariantSet .holds r v ≡ begun (model S·VariantSet (now (left .entry))) (model S·VariantSet (now (right .entry))) (S·VariantSet .holds list) s t v) ⌝ }
-{
-    let (Some(a), Some(b)) = (left.label(s), right.label(t)) else {
-        return S::none();
-    };
-    if a == b { list } else { S::none() }
-}
-
-// Writes the row of `s` as it begins.
-fn fill_row<S: VariantSet>(
-    table: &mut Table<S>,
-    left: &Family<S>,
-    right: &Family<S>,
+// What a comparison begins with: the list where the labels are equal, else nothing.
+#[derive(Drop)]
+struct Beginning<'l, 'a, 'r, 'b, S> {
+    left: &'l Family<'a, S>,
+    right: &'r Family<'b, S>,
     list: S,
-    s: u8,
-)
-    requires fits { ⌜ Fits (now table) ⌝ }
-    requires row { ⌜ s < now table .rows ⌝ }
-    ensures kept { λ _. ⌜ Resembles (now (table .entry)) (now (table .exit)) ⌝ }
-    ensures row { λ _. ⌜ ((t v : ℕ) → t < now (table .entry) .cols → standing S·VariantSet (now (table .exit)) s t v ≡ begun (model S·VariantSet (now (left .entry))) (model S·VariantSet (now (right .entry))) (S·VariantSet .holds list) s t v) ⌝ }
-    ensures others { λ _. ⌜ ((r t v : ℕ) → (r ≡ s → ⊥) → standing S·VariantSet (now (table .exit)) r t v ≡ standing S·VariantSet (now (table .entry)) r t v) ⌝ }
-{
-    for t in 0..table.cols() {
-        table.put(s, t, first(left, right, list, s, t));
-    }
 }
 
-// Writes every pair as it begins.
-fn fill<S: VariantSet>(table: &mut Table<S>, left: &Family<S>, right: &Family<S>, list: S)
-    requires fits { ⌜ Fits (now table) ⌝ }
-    requires rows { ⌜ now table .rows ≡ model S·VariantSet (now left) .states ⌝ }
-    requires cols { ⌜ now table .cols ≡ model S·VariantSet (now right) .states ⌝ }
-    ensures kept { λ _. ⌜ Resembles (now (table .entry)) (now (table .exit)) ⌝ }
-    ensures begun { λ _. ⌜ standing S·VariantSet (now (table .exit)) ≡ begun (model S·VariantSet (now (left .entry))) (model S·VariantSet (now (right .entry))) (S·VariantSet .holds list) ⌝ }
-{
-    for s in 0..table.rows() {
-        fill_row(table, left, right, list, s);
+impl<'l, 'a, 'r, 'b, S: VariantSet> Origin<S> for Beginning<'l, 'a, 'r, 'b, S> as BeginningOrigin {
+    ghost stands = { λ b. begun (model S·VariantSet (now (b .left))) (model S·VariantSet (now (b .right))) (S·VariantSet .holds (b .list)) };
+
+    fn set_at(&self, s: u8, t: u8) -> S {
+        let (Some(a), Some(b)) = (self.left.label(s), self.right.label(t)) else {
+            return S::none();
+        };
+        if a == b { self.list } else { S::none() }
     }
 }
 
@@ -89,7 +67,7 @@ impl<'t, S: VariantSet> Comparison<'t, S> {
         ensures promises { λ _. ⌜ Comparing-is-exact (S·VariantSet .variants) (model S·VariantSet (now (left .entry))) (model S·VariantSet (now (right .entry))) (S·VariantSet .holds list) ⌝ }
     {
         let mut table = Table::over(left.states(), right.states(), table);
-        fill(&mut table, left, right, list);
+        fill(&mut table, &Beginning { left, right, list });
         Comparison {
             table,
             left_start: left.start(),

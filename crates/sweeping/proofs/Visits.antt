@@ -1,34 +1,20 @@
 -- A table after a visit, and after several.
-use mathlib.Core.Path.{_≡_, refl, sym, ap, ap₂, subst, _∙_, fun-ext}
+use mathlib.Core.Path.{_≡_, refl, sym, ap, ap₂, _∙_, fun-ext}
 use mathlib.Core.Bool.{Bool, true, false, _&&_, cond}
-use mathlib.Core.Logic.{_⊎_, inl, inr}
-use mathlib.Core.List.{List}
-use Prim.Native.Nat.{ℕ, _+_, _*_, _<_, _≤_}
-use native.Mathlib.Omega.{arith}
+use mathlib.Core.Logic.{inl, inr}
+use Prim.Native.Nat.{ℕ, _+_, _*_}
 use lib.Dec.{eqb}
-use lib.ListN.{length, drop}
+use lib.ListN.{length}
 use denote.Ref.{now}
 use Rattle.std.proofs.shelf.Tests.{and-parts, and-left, and-from, eqb-true, eq-eqb, cases-bool, cases-lt, cond-true, cond-false}
-use Rattle.theory.specs.Sets.{Variants}
 use Rattle.theory.specs.Tables as theory
 use Rattle.theory.specs.Sweeps.{Rule, visited}
 use Rattle.variants.specs.declared.VariantSet.{Ghosts as Kind}
 use Rattle.tables.specs.declared.Table.{Table}
 use Rattle.tables.specs.Cells.{grid}
-use Rattle.tables.specs.Tables.{standing, written, Has, Resembles, Same}
+use Rattle.tables.specs.Tables.{standing, written, Has, Same}
 use Rattle.tables.proofs.Places.{grid-outside}
-
-has-or-not : {S : Type 0} (T : Table S) (s t : ℕ) → Has T s t ⊎ (Has T s t → ⊥)
-has-or-not T s t = elim (cases-lt s (T .rows)) [
-  | inr l ↦ inr (λ h. omega (arith, h .row))
-  | inl ls ↦ elim (cases-lt t (T .cols)) [
-    | inr l ↦ inr (λ h. omega (arith, h .col))
-    | inl lt ↦ elim (cases-lt (s * (T .cols) + t) (length (now (T .cells)))) [
-      | inr l ↦ inr (λ h. omega (arith, h .place))
-      | inl here ↦ inl (record { row = ls; col = lt; place = here })
-    ]
-  ]
-]
+use Rattle.tables.proofs.Tables.{has-or-not}
 
 -- a visit of a pair that holds nothing changes nothing
 visited-nothing : (rule : Rule) (T : theory.Table) (s t : ℕ) → ((v : ℕ) → T s t v ≡ false) → T ≡ visited rule T s t
@@ -68,17 +54,3 @@ module _ {S : Type 0} (K : Kind S) (rule : Rule) (T U : Table S) (s t : ℕ) (x 
         ∙ ap (grid K (T .rows) (T .cols)) (same .cells)
         ∙ visited-nothing rule (standing K T) s t none
   ]
-
-pub resembles-refl : {S : Type 0} (T : Table S) → Resembles T T
-resembles-refl T = record { rows = refl; cols = refl; memory = refl; size = refl; beyond = refl }
-
-pub resembles-trans : {S : Type 0} (T U W : Table S) → Resembles T U → Resembles U W → Resembles T W
-resembles-trans {S} T U W p q =
-    let pairs : (U .rows) * (U .cols) ≡ (T .rows) * (T .cols) = ap₂ (λ (n m : ℕ). n * m) (p .rows) (p .cols) in
-    record {
-      rows = q .rows ∙ p .rows;
-      cols = q .cols ∙ p .cols;
-      memory = q .memory ∙ p .memory;
-      size = q .size ∙ p .size;
-      beyond = subst (λ (k : ℕ). drop k (now (W .cells)) ≡ drop k (now (U .cells))) pairs (q .beyond) ∙ p .beyond;
-    }

@@ -7,6 +7,11 @@ ghost use Rattle.tables.specs.Cells.{cell, grid};
 ghost use Rattle.tables.specs.Tables.{standing, written, Has, Resembles, Same};
 use variants::VariantSet;
 
+mod filling;
+
+pub use filling::Origin;
+pub use filling::fill;
+
 // The set of the pair of `s` and `t` stands at place `s` times `cols` plus `t`; later places are not the table's.
 #[derive(Drop)]
 pub struct Table<'t, S> {

@@ -5,7 +5,7 @@ use Rattle.theory.specs.Sweeps.{rows-visited, row-visited, row-struck, rows-str
 use Rattle.theory.proofs.Sweeps.{rows-more, rows-struck-more, rows-struck-all}
 use Rattle.tables.specs.Tables.{standing}
 use Rattle.sweeping.specs.Visits.{rule-of}
-use Rattle.sweeping.proofs.Visits.{resembles-trans}
+use Rattle.tables.proofs.Tables.{resembles-trans}
 use Rattle.sweeping.proofs.visiting.sweep.Needs as need
 
 pub loop-s-again : need.loop-s-again

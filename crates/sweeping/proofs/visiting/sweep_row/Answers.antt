@@ -6,7 +6,7 @@ use Rattle.theory.specs.Sweeps.{row-visited, row-struck}
 use Rattle.theory.proofs.Sweeps.{row-more, row-struck-more, row-struck-few}
 use Rattle.tables.specs.Tables.{standing}
 use Rattle.sweeping.specs.Visits.{rule-of}
-use Rattle.sweeping.proofs.Visits.{resembles-trans}
+use Rattle.tables.proofs.Tables.{resembles-trans}
 use Rattle.sweeping.proofs.visiting.sweep_row.Needs as need
 
 pub loop-t-again : need.loop-t-again
