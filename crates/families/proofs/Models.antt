@@ -4,11 +4,12 @@ use mathlib.Core.Bool.{cond}
 use mathlib.Core.Logic.{inl, inr}
 use mathlib.Core.List.{List, [], _∷_, _++_, map}
 use Prim.Native.Nat.{ℕ, zero, suc, _+_, _<_}
+use native.Mathlib.Omega.{arith}
 use lib.Dec.{eqb}
 use lib.ListN.{length, getD, set, take, replicate}
 use denote.Ref.{now}
 use Rattle.std.specs.shelf.Lists.{Every}
-use Rattle.std.proofs.shelf.Lists.{getD-set-same, getD-set-other, take-more-set, map-push, map-more}
+use Rattle.std.proofs.shelf.Lists.{getD-set-same, getD-set-other, take-more-set, map-push, map-more, length-take, getD-take}
 use Rattle.std.proofs.shelf.Elements.{every-more-set}
 use Rattle.std.proofs.shelf.Tests.{cases-eq, cond-true, cond-false, eq-eqb, ne-eqb}
 use Rattle.theory.specs.Systems as theory
@@ -16,7 +17,8 @@ use Rattle.variants.specs.declared.VariantSet.{Ghosts as Kind}
 use Rattle.families.specs.declared.parts.Step.{Step}
 use Rattle.families.specs.declared.parts.Parts.{Parts}
 use Rattle.families.specs.Parts.{Pushed}
-use Rattle.families.specs.Models.{step-of, meaning, with-label, with-step}
+use Rattle.families.specs.declared.Family.{Family}
+use Rattle.families.specs.Models.{step-of, held-steps, meaning, with-label, with-step}
 
 -- the label of each state
 abbrev labelling : List ℕ → ℕ → ℕ
@@ -70,3 +72,14 @@ pub steps-more : {S : Type 0} (K : Kind S) (xs : List (Step S)) (i : ℕ) (x : S
     map (step-of K) (take (i + 1) xs) ≡ map (step-of K) (take i xs) ++ step-of K x ∷ []
 steps-more {S} K xs i x l e =
     map-more (step-of K) xs i x l ∙ ap (λ (y : Step S). map (step-of K) (take i xs) ++ step-of K y ∷ []) (sym e)
+
+-- a step that a closed family holds is between its states
+pub step-between : {S : Type 0} (f : Family S) (xs : List (Step S)) → xs ≡ held-steps (f .parts) → (i : ℕ) (x : Step S) → i < length xs → x ≡ getD xs i x →
+    (x .from < f .parts .states) × (x .to < f .parts .states)
+step-between {S} f xs e i x l read =
+    let p = f .parts in
+    let held : i < p .held = omega (arith, ap length e, length-take (p .held) (now (p .steps))) in
+    let is : x ≡ getD (now (p .steps)) i x = read ∙ ap (λ (ys : List (Step S)). getD ys i x) e ∙ getD-take (p .held) (now (p .steps)) i x held in (
+      subst (λ (y : Step S). y .from < p .states) (sym is) (f .leaves i x (omega arith) held),
+      subst (λ (y : Step S). y .to < p .states) (sym is) (f .enters i x (omega arith) held),
+    )

@@ -2,8 +2,8 @@
 use mathlib.Core.Path.{_≡_, refl, sym, ap, ap₂, _∙_, fun-ext}
 use mathlib.Core.Bool.{Bool, true, false, _&&_, cond}
 use mathlib.Core.Logic.{_≢_, inl, inr}
-use mathlib.Core.List.{List, map}
-use Prim.Native.Nat.{ℕ, _+_, _-_, _*_, _<_, _≤_, min}
+use mathlib.Core.List.{List, [], _∷_, map}
+use Prim.Native.Nat.{ℕ, zero, suc, _+_, _-_, _*_, _<_, _≤_, min}
 use native.Mathlib.Omega.{arith}
 use lib.Dec.{eqb, ltb}
 use lib.ListN.{length, getD, set, take, drop}
@@ -116,3 +116,15 @@ module _ {S : Type 0} (K : Kind S) (rows cols : ℕ) (xs : List S) where
 
     pub grid-set : grid K rows cols (set xs (s * cols + t) x) ≡ written (grid K rows cols xs) s t (K .holds x)
     grid-set = fun-ext (λ s′. fun-ext (λ t′. fun-ext (λ v. written-at s′ t′ v)))
+
+-- a set of a kind holds only the kind's variants, so a table of its sets does
+pub cell-within : {S : Type 0} (K : Kind S) → ((x : S) (v : ℕ) → K .holds x v ≡ true → v < K .variants) → (xs : List S) (k v : ℕ) → cell K xs k v ≡ true → v < K .variants
+cell-within K law [] k v e = absurd (both-ways false refl e)
+cell-within K law (x ∷ xs) zero v e = law x v e
+cell-within K law (x ∷ xs) (suc k) v e = cell-within K law xs k v e
+
+pub grid-within : {S : Type 0} (K : Kind S) → ((x : S) (v : ℕ) → K .holds x v ≡ true → v < K .variants) → (rows cols : ℕ) (xs : List S) →
+    (s t v : ℕ) → grid K rows cols xs s t v ≡ true → (s < rows) × (t < cols) × (v < K .variants)
+grid-within K law rows cols xs s t v h =
+    let i = grid-inside K rows cols xs s t v h in
+    (i .0, i .1, cell-within K law xs (s * cols + t) v (and-parts _ _ h .1))

@@ -8,3 +8,4 @@ pub mod Losses
 pub mod Histories
 pub mod Calling
 pub mod Marking
+pub mod Reach
