@@ -9,10 +9,10 @@ use Rattle.std.proofs.shelf.Tests.{both-ways}
 use Rattle.theory.specs.Sets.{Variants, card}
 use Rattle.theory.specs.Systems as theory
 use Rattle.theory.specs.Tables.{Table}
-use Rattle.theory.specs.Sweeps.{answers, answered, applies, kept}
+use Rattle.theory.specs.Sweeps.{answered, applies, kept}
 use Rattle.theory.proofs.Booleans.{and-true}
 use Rattle.theory.proofs.Cards.{card-le}
-use Rattle.theory.proofs.Rules.{answered-push, kept-push}
+use Rattle.theory.proofs.Rules.{kept-push}
 use Rattle.variants.specs.declared.VariantSet.{Ghosts as Kind}
 use Rattle.variants.specs.Sets.{capped}
 use Rattle.families.specs.declared.parts.Step.{Step}
@@ -45,13 +45,6 @@ pub count-exact : (V : ℕ) (X : Variants) → V ≤ 1024 → capped (card V X) 
 count-exact V X l = omega (arith, card-le V X)
 
 module _ {S : Type 0} (K : Kind S) (xs : List (Step S)) (i : ℕ) (x : Step S) (l : i < length xs) (e : x ≡ getD xs i x) where
-  pub answered-more : (T : Table) (t : ℕ) (y : theory.Step) (v : ℕ) →
-      answered (map (step-of K) (take (i + 1) xs)) T t y v
-      ≡ (answered (map (step-of K) (take i xs)) T t y v || answers T t y v (step-of K x))
-  answered-more T t y v =
-      ap (λ (rs : List theory.Step). answered rs T t y v) (steps-more K xs i x l e)
-      ∙ answered-push T t y v (map (step-of K) (take i xs)) (step-of K x)
-
   pub kept-more : (rs : List theory.Step) (T : Table) (s t v : ℕ) →
       kept (map (step-of K) (take (i + 1) xs)) rs T s t v
       ≡ (kept (map (step-of K) (take i xs)) rs T s t v && (not (applies s v (step-of K x)) || answered rs T t (step-of K x) v))

@@ -3,16 +3,18 @@ ghost use mathlib.Core.Path.{_≡_};
 ghost use mathlib.Core.Bool.{_&&_, _||_, not};
 ghost use Prim.Native.Nat.{ℕ, _+_, _≤_};
 ghost use Rattle.theory.specs.Sets.{gone};
-ghost use Rattle.theory.specs.Sweeps.{answers, answered, applies};
+ghost use Rattle.theory.specs.Sweeps.{answered, applies};
 ghost use Rattle.families.specs.Models.{step-of};
 ghost use Rattle.families.specs.Drafts.{model};
 ghost use Rattle.tables.specs.Tables.{standing};
 ghost use Rattle.variants.specs.Kinds.{Countable};
-ghost use Rattle.sweeping.specs.Visits.{each-row, rule-of};
+ghost use Rattle.sweeping.specs.Visits.{rule-of};
+use answering::Row;
+use answering::RowPartners;
+use answering::answered;
 use families::Family;
 use families::Step;
 use tables::Table;
-use tables::nth;
 use variants::VariantSet;
 
 // What is kept of a pair's set, and how many variants were struck from it.
@@ -20,30 +22,6 @@ use variants::VariantSet;
 pub struct Judged<S> {
     pub(crate) kept: S,
     pub(crate) strikes: u64,
-}
-
-// `so_far`, and the variants in which the right step answers the left one from `t`: both hold them, the
-// right step and the pair of entered states, whose row is given.
-fn joined<S: VariantSet>(so_far: S, left: Step<S>, right: Step<S>, row: &[S], t: u8) -> S
-    ensures { λ r. ⌜ ((v : ℕ) → S·VariantSet .holds r v ≡ (S·VariantSet .holds «so_far» v || answers (each-row S·VariantSet (now (row .entry))) t (step-of S·VariantSet left) v (step-of S·VariantSet right))) ⌝ }
-{
-    if right.from == t && right.action == left.action {
-        so_far.either(right.set.both(nth(row, right.to)))
-    } else {
-        so_far
-    }
-}
-
-// The variants in which some right step answers the left one from `t`.
-fn followed<S: VariantSet>(left: Step<S>, right: &Family<S>, row: &[S], t: u8) -> S
-    ensures { λ r. ⌜ ((v : ℕ) → S·VariantSet .holds r v ≡ answered (model S·VariantSet (now (right .entry)) .steps) (each-row S·VariantSet (now (row .entry))) t (step-of S·VariantSet left) v) ⌝ }
-{
-    let steps = right.steps();
-    let mut followed = S::none();
-    for step in steps {
-        followed = joined(followed, left, *step, row, t);
-    }
-    followed
 }
 
 // `judged` after the left step: without the variants that it holds and in which it is not followed.
@@ -74,7 +52,10 @@ fn after_step<S: VariantSet>(
     if left.from != s {
         return judged;
     }
-    let followed = followed(left, right, table.row(left.to), t);
+    let entered = Row {
+        cells: table.row(left.to),
+    };
+    let followed = answered(left, right, &entered, t);
     struck(judged, left, followed)
 }
 

@@ -32,8 +32,9 @@ pub fn nth<S: VariantSet>(row: &[S], place: u8) -> S
     }
 }
 
-// The row of a left state, as far as the memory has it; empty where there is no such row.
-fn cut<S: VariantSet>(rows: u8, cols: u8, cells: &[S], s: u8) -> &[S]
+// The row of a left state in a table of so many rows and columns, as far as the memory has it; empty where
+// there is no such row.
+pub fn row_of<S: VariantSet>(rows: u8, cols: u8, cells: &[S], s: u8) -> &[S]
     ensures { λ r. ⌜ ((t v : ℕ) → cell S·VariantSet (now r) t v ≡ grid S·VariantSet rows cols (now (cells .entry)) s t v) ⌝ }
 {
     let first = s as usize * cols as usize;
@@ -75,7 +76,7 @@ impl<'t, S: VariantSet> Table<'t, S> {
         ensures { λ r. ⌜ ((t v : ℕ) → cell S·VariantSet (now r) t v ≡ standing S·VariantSet (now (self .entry)) s t v) ⌝ }
     {
         let cells: &[S] = &*self.cells;
-        cut(self.rows, self.cols, cells, s)
+        row_of(self.rows, self.cols, cells, s)
     }
 
     // The set of a pair, or the empty set where the table has no such pair.

@@ -8,8 +8,9 @@ use Rattle.theory.proofs.Cards.{gone-nothing}
 use Rattle.theory.proofs.Rules.{answered-row}
 use Rattle.families.specs.Models.{step-of}
 use Rattle.families.specs.Drafts.{model}
+use Rattle.tables.specs.Cells.{cell}
 use Rattle.tables.specs.Tables.{standing}
-use Rattle.sweeping.specs.Visits.{each-row}
+use Rattle.answering.specs.Partners.{each-row}
 use Rattle.sweeping.proofs.Steps.{passed, applied}
 use Rattle.sweeping.proofs.judging.after_step.Needs as need
 
@@ -34,8 +35,8 @@ returns g c =
       kept = λ v.
           c .struck .ensures .kept v
           ∙ ap (λ (b : Bool). h k v && (not (h (l .set) v) || b))
-          (c .followed-followed .ensures v
-          ∙ answered-row (each-row K (c .row .result .now)) T (c .args .t) (step-of K l) v (λ y. c .row .ensures y v) rs)
+          (c .answered-followed .ensures v
+          ∙ answered-row (each-row (cell K (c .row .result .now))) T (c .args .t) (step-of K l) v (λ y. c .row .ensures y v) rs)
           ∙ applied (h k v) (eqb (l .from) (c .args .s)) (h (l .set) v) _ (eq-eqb _ _ (c .if-left-s .left));
       strikes = c .struck .ensures .strikes;
     }

@@ -2,7 +2,7 @@ use mathlib.Core.Path.{sym}
 use native.Mathlib.Omega.{arith}
 use borrow.Author.Needs.{needs}
 use Rattle.tables.proofs.Places.{row-cut, row-none}
-use Rattle.tables.proofs.cut.Needs as need
+use Rattle.tables.proofs.row_of.Needs as need
 
 pub returns-then-first-end : need.returns-then-first-end
 returns-then-first-end g c t v =
