@@ -9,3 +9,5 @@ pub mod Histories
 pub mod Calling
 pub mod Marking
 pub mod Reach
+pub mod Judgements
+pub mod Clearing

@@ -37,7 +37,7 @@ answered-row T U t l v e [] = refl
 answered-row T U t l v e (r ∷ rs) =
     ap₂ (λ (x y : Bool). (eqb (r .from) t && (eqb (r .action) (l .action) && (r .held v && x))) || y) (e (r .to)) (answered-row T U t l v e rs)
 
-answered-out : (R : Family) (T : Table) (t : ℕ) (l : Step) (v : ℕ) → answered (R .steps) T t l v ≡ true → Answered R T t v l
+pub answered-out : (R : Family) (T : Table) (t : ℕ) (l : Step) (v : ℕ) → answered (R .steps) T t l v ≡ true → Answered R T t v l
 answered-out R T t l v e = go (R .steps) e (λ r m. m)
   where
     go : (rs : List Step) → answered rs T t l v ≡ true → ((r : Step) → List·Memᴰ r rs → List·Memᴰ r (R .steps)) → Answered R T t v l
@@ -51,7 +51,7 @@ answered-out R T t l v e = go (R .steps) e (λ r m. m)
       | inr h ↦ go rs h (λ x m. among x (List·Memᴰ·tail m))
     ]
 
-answered-in : {r : Step} {rs : List Step} (T : Table) (t : ℕ) (l : Step) (v : ℕ) → List·Memᴰ r rs →
+pub answered-in : {r : Step} {rs : List Step} (T : Table) (t : ℕ) (l : Step) (v : ℕ) → List·Memᴰ r rs →
     r .from ≡ t → r .action ≡ l .action → r .held v ≡ true → T (l .to) (r .to) v ≡ true → answered rs T t l v ≡ true
 answered-in T t l v (List·Memᴰ·head e) from does held after =
     or-left _ _ (subst (λ (r : Step). answers T t l v r ≡ true) e (and-from _ _ (eq-eqb _ _ from) (and-from _ _ (eq-eqb _ _ does) (and-from _ _ held after))))

@@ -10,3 +10,4 @@ pub mod Answers
 pub mod Calls
 pub mod Histories
 pub mod Marks
+pub mod Judgements
