@@ -2,7 +2,7 @@
 use mathlib.Core.Path.{_≡_, refl, sym, ap, ap₂, subst, subst₂, _∙_, fun-ext}
 use mathlib.Core.Bool.{cond}
 use mathlib.Core.Logic.{inl, inr}
-use mathlib.Core.List.{List, [], _∷_, _++_, map}
+use mathlib.Core.List.{List, [], _∷_, _++_, map, List·Memᴰ, List·Memᴰ·head, List·Memᴰ·tail, List·Memᴰ·not-nil}
 use Prim.Native.Nat.{ℕ, zero, suc, _+_, _<_}
 use native.Mathlib.Omega.{arith}
 use lib.Dec.{eqb}
@@ -13,6 +13,7 @@ use Rattle.std.proofs.shelf.Lists.{getD-set-same, getD-set-other, take-more-set
 use Rattle.std.proofs.shelf.Elements.{every-more-set}
 use Rattle.std.proofs.shelf.Tests.{cases-eq, cond-true, cond-false, eq-eqb, ne-eqb}
 use Rattle.theory.specs.Systems as theory
+use Rattle.theory.proofs.Judgements.{Between-states}
 use Rattle.variants.specs.declared.VariantSet.{Ghosts as Kind}
 use Rattle.families.specs.declared.parts.Step.{Step}
 use Rattle.families.specs.declared.parts.Parts.{Parts}
@@ -83,3 +84,25 @@ step-between {S} f xs e i x l read =
       subst (λ (y : Step S). y .from < p .states) (sym is) (f .leaves i x (omega arith) held),
       subst (λ (y : Step S). y .to < p .states) (sym is) (f .enters i x (omega arith) held),
     )
+
+-- where a member of a mapped list comes from
+record Source {S : Type 0} (K : Kind S) (xs : List (Step S)) (y : theory.Step) : Type 0 where
+  place : ℕ
+  step : Step S
+  below : place < length xs
+  read : step ≡ getD xs place step
+  means : y ≡ step-of K step
+
+source : {S : Type 0} (K : Kind S) (xs : List (Step S)) (y : theory.Step) → List·Memᴰ y (map (step-of K) xs) → Source K xs y
+source K [] y m = absurd (List·Memᴰ·not-nil m)
+source K (x ∷ xs) y (List·Memᴰ·head e) = record { place = 0; step = x; below = omega arith; read = refl; means = e }
+source K (x ∷ xs) y (List·Memᴰ·tail m) =
+    let k = source K xs y m in
+    record { place = suc (k .place); step = k .step; below = omega (arith, k .below); read = k .read; means = k .means }
+
+-- every step of a closed family is between its states
+pub family-between : {S : Type 0} (K : Kind S) (f : Family S) → Between-states (meaning K (f .parts))
+family-between K f y m =
+    let k = source K (held-steps (f .parts)) y m in
+    let b = step-between f (held-steps (f .parts)) refl (k .place) (k .step) (k .below) (k .read) in
+    subst (λ (z : theory.Step). (z .from < f .parts .states) × (z .to < f .parts .states)) (sym (k .means)) b

@@ -78,13 +78,16 @@ module _ (V : ℕ) (F : Family) (between : Between-states F) (t : ℕ) (lt : t <
   followed-by-way f =
       let r = f .via in
       let l = silent-inside (f .silent) in
-      let here = and-from _ _ (row r v l lv .1 (f .silent)) (f .still) in
-      (r, l, and-from _ _ here (elim (f .does) [
-        | inl g ↦
-            let m = goes-step v r (x .action) (f .end) (F .steps) g in
-            or-left _ _ (answered-in H r x v (m .listed) (m .leaves) (m .does) (m .holds) (subst (λ (k : ℕ). H (x .to) k v ≡ true) (sym (m .enters)) (f .then)))
-        | inr e ↦ or-right _ _ (and-from _ _ (eq-eqb _ _ (e .0)) (subst (λ (k : ℕ). H (x .to) k v ≡ true) (sym (e .1)) (f .then)))
-      ]))
+      let here = and-from _ _ (row r v l lv .1 (f .silent)) (f .still) in (
+        r,
+        l,
+        and-from _ _ here (elim (f .does) [
+          | inl g ↦
+              let m = goes-step v r (x .action) (f .end) (F .steps) g in
+              or-left _ _ (answered-in H r x v (m .listed) (m .leaves) (m .does) (m .holds) (subst (λ (k : ℕ). H (x .to) k v ≡ true) (sym (m .enters)) (f .then)))
+          | inr e ↦ or-right _ _ (and-from _ _ (eq-eqb _ _ (e .0)) (subst (λ (k : ℕ). H (x .to) k v ≡ true) (sym (e .1)) (f .then)))
+        ]),
+      )
 
   -- a step is followed exactly by way of some state
   pub followed-tested : Decides (some-below (F .states) (by-way-of (F .steps) X H s x v)) (Step-followed F H s t x v)
