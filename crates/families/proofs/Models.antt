@@ -13,6 +13,7 @@ use Rattle.std.proofs.shelf.Lists.{getD-set-same, getD-set-other, take-more-set
 use Rattle.std.proofs.shelf.Elements.{every-more-set}
 use Rattle.std.proofs.shelf.Tests.{cases-eq, cond-true, cond-false, eq-eqb, ne-eqb}
 use Rattle.theory.specs.Systems as theory
+use Rattle.theory.specs.Marks.{At, here, there}
 use Rattle.theory.proofs.Judgements.{Between-states}
 use Rattle.variants.specs.declared.VariantSet.{Ghosts as Kind}
 use Rattle.families.specs.declared.parts.Step.{Step}
@@ -73,6 +74,12 @@ pub steps-more : {S : Type 0} (K : Kind S) (xs : List (Step S)) (i : ℕ) (x : S
     map (step-of K) (take (i + 1) xs) ≡ map (step-of K) (take i xs) ++ step-of K x ∷ []
 steps-more {S} K xs i x l e =
     map-more (step-of K) xs i x l ∙ ap (λ (y : Step S). map (step-of K) (take i xs) ++ step-of K y ∷ []) (sym e)
+
+-- the step that is read at a place stands there
+pub step-at : {S : Type 0} (K : Kind S) (xs : List (Step S)) (i : ℕ) (x : Step S) → i < length xs → x ≡ getD xs i x → At (map (step-of K) xs) i (step-of K x)
+step-at K [] i x l e = absurd (omega arith)
+step-at K (y ∷ xs) zero x l e = subst (λ (z : Step _). At (step-of K y ∷ map (step-of K) xs) 0 (step-of K z)) (sym e) here
+step-at K (y ∷ xs) (suc i) x l e = there (step-at K xs i x (omega arith) e)
 
 -- a step that a closed family holds is between its states
 pub step-between : {S : Type 0} (f : Family S) (xs : List (Step S)) → xs ≡ held-steps (f .parts) → (i : ℕ) (x : Step S) → i < length xs → x ≡ getD xs i x →
