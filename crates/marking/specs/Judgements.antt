@@ -6,7 +6,7 @@ use Rattle.std.specs.declared.option.Option.the-variants.{Some, None}
 use Rattle.theory.specs.Sets.{Variants}
 use Rattle.theory.specs.Systems as theory
 use Rattle.theory.specs.Tables.{Table}
-use Rattle.theory.specs.Marks.{Spot, left, at-step}
+use Rattle.theory.specs.Marks.{Spot, left, at-starts, at-step, fault}
 use Rattle.theory.specs.Marks as marks
 use Rattle.theory.specs.Reach.{Reaches}
 use Rattle.theory.specs.Judgements.{Reach-row, All-followed, First-unfollowed, Clear}
@@ -32,6 +32,11 @@ Lapsed F H s t xs (Some l) = First-unfollowed F H s t xs (l .step) (l .variant)
 abbrev pub Found : theory.Family → theory.Family → Variants → Table → Spot → Option Fault → Type 0
 Found L R listed H p None = Clear L R listed H p
 Found L R listed H p (Some f) = marks.Marked L R listed H (fault-answer f)
+
+-- None if the starts pass, else the least variant that fails there: the start rule is the first fault
+abbrev pub Start-found : theory.Family → theory.Family → Variants → Table → Option ℕ → Type 0
+Start-found L R listed H None = Clear L R listed H (at-step left 0 0 0)
+Start-found L R listed H (Some v) = marks.Marked L R listed H (fault L R listed H at-starts v)
 
 module _ {S : Type 0} (K : Kind S) where
   -- the judgement of a mover's steps at the pair of own and other, if the row is the follower's reach from other
@@ -64,6 +69,10 @@ module _ {S : Type 0} (K : Kind S) where
         Countable K → Both-reached left-reach right-reach →
         (listed : Variants) → Clear (model K L) (model K R) listed pairs-of (at-step left 0 0 0) →
         Found (model K L) (model K R) listed pairs-of (at-step left (model K L .states) 0 0) r
+
+    -- what is found at the starts
+    abbrev pub Judges-starts : S → Option ℕ → Type 0
+    Judges-starts list r = Countable K → Start-found (model K L) (model K R) (K .holds list) pairs-of r
 
     -- the judgement of the whole candidate
     abbrev pub Judges : S → List S → List S → Marked → Type 0

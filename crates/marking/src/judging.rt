@@ -4,7 +4,7 @@ ghost use mathlib.Core.List.{[], _∷_};
 ghost use denote.Ref.{now};
 ghost use Rattle.theory.specs.Answers.{granted};
 ghost use Rattle.marking.specs.Faults.{rule-number, fault-answer};
-ghost use Rattle.marking.specs.Judgements.{Judges-steps, Judges-pair, Judges-pairs, Judges};
+ghost use Rattle.marking.specs.Judgements.{Judges-steps, Judges-pair, Judges-pairs, Judges-starts, Judges};
 use crate::Fault;
 use crate::Marked;
 use crate::Rule;
@@ -118,4 +118,44 @@ fn walk<S: VariantSet>(
         }
     }
     found
+}
+
+// The least listed variant that the pair of starts lacks.
+fn unpaired_start<S: VariantSet>(
+    left: &Family<S>,
+    right: &Family<S>,
+    list: S,
+    candidate: &[S],
+) -> Option<u32>
+    ensures { λ r. ⌜ Judges-starts S·VariantSet (now (left .entry)) (now (right .entry)) (now (candidate .entry)) list r ⌝ }
+{
+    let row = row_of(left.states(), right.states(), candidate, left.start());
+    let starts = nth(row, right.start());
+    list.without(starts).least()
+}
+
+// The start rule first, then every pair.
+pub(crate) fn judge<S: VariantSet>(
+    left: &Family<S>,
+    right: &Family<S>,
+    list: S,
+    candidate: &[S],
+    left_reach: &[S],
+    right_reach: &[S],
+) -> Marked
+    ensures { λ r. ⌜ Judges S·VariantSet (now (left .entry)) (now (right .entry)) (now (candidate .entry)) list (now («left_reach» .entry)) (now («right_reach» .entry)) r ⌝ }
+{
+    if let Some(variant) = unpaired_start(left, right, list, candidate) {
+        return Marked::Faulty(Fault {
+            rule: Rule::Start,
+            left: left.start(),
+            right: right.start(),
+            step: 0,
+            variant,
+        });
+    }
+    match walk(left, right, candidate, left_reach, right_reach) {
+        Some(fault) => Marked::Faulty(fault),
+        None => Marked::Accepted,
+    }
 }
