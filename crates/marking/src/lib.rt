@@ -2,7 +2,10 @@
 ghost use mathlib.Core.Path.{_≡_};
 ghost use Rattle.marking.specs.Faults.{rule-number};
 
+mod checking;
 mod judging;
+
+pub use checking::mark;
 
 // The rule that a candidate breaks.
 #[derive(Clone, Copy, Debug, PartialEq, Eq)]

@@ -1,7 +1,7 @@
 // Silent reach: in which variants silent steps lead from one state to another.
 ghost use mathlib.Core.Path.{_≡_};
 ghost use mathlib.Core.Bool.{_&&_};
-ghost use Prim.Native.Nat.{ℕ, _<_};
+ghost use Prim.Native.Nat.{ℕ, _<_, _≤_};
 ghost use lib.Dec.{eqb, ltb};
 ghost use denote.Ref.{now};
 ghost use Rattle.std.specs.Orderings.{Decides};
@@ -11,7 +11,7 @@ ghost use Rattle.variants.specs.Kinds.{Countable};
 ghost use Rattle.families.specs.Models.{step-of};
 ghost use Rattle.families.specs.Drafts.{model};
 ghost use Rattle.tables.specs.Tables.{standing, Fits, Resembles};
-ghost use Rattle.reaching.specs.Reaches.{Reached, Too-short};
+ghost use Rattle.reaching.specs.Reaches.{reach-places, Reached, Too-short};
 use families::Family;
 use families::Step;
 use refusals::Refusal;
@@ -103,12 +103,21 @@ fn rounds<S: VariantSet>(table: &mut Table<S>, family: &Family<S>) -> u32
     }
 }
 
+// How many places the reach of the family takes: one for each pair of its states.
+pub fn places<S: VariantSet>(family: &Family<S>) -> usize
+    ensures value { λ r. ⌜ r ≡ reach-places S·VariantSet (now (family .entry)) ⌝ }
+    ensures few { λ r. ⌜ r ≤ 4096 ⌝ }
+{
+    let n = family.states() as usize;
+    n * n
+}
+
 // Writes the silent reach of the family into the first places, row by row; answers the rounds that it took.
 pub fn reach<S: VariantSet>(family: &Family<S>, cells: &mut [S]) -> Result<u32, Refusal>
     ensures { λ r. ⌜ Cases r (λ k. Reached S·VariantSet (now (family .entry)) (now (cells .entry)) (now (cells .exit)) k) (λ e. Too-short S·VariantSet (now (family .entry)) (now (cells .entry)) (now (cells .exit)) e) ⌝ }
 {
     let n = family.states();
-    if cells.len() < n as usize * n as usize {
+    if cells.len() < places(family) {
         return Err(Refusal::ScratchTooShort);
     }
     let mut table = Table::over(n, n, cells);

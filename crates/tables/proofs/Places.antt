@@ -25,6 +25,10 @@ module _ {S : Type 0} (K : Kind S) where
   pub cell-past : (xs : List S) (k : ℕ) → length xs ≤ k → (v : ℕ) → cell K xs k v ≡ false
   cell-past xs k l v = ap (λ (f : Variants). f v) (getD-past (map (K .holds) xs) k (λ _. false) (simp length-map l))
 
+  -- so what is held stands before the end
+  pub cell-inside : (xs : List S) (k v : ℕ) → cell K xs k v ≡ true → k < length xs
+  cell-inside xs k v h = elim (cases-lt k (length xs)) [ inl l ↦ l | inr l ↦ absurd (both-ways (cell K xs k v) (cell-past xs k l v) h) ]
+
   cell-set-same : (xs : List S) (k : ℕ) (x : S) → k < length xs → (v : ℕ) → cell K (set xs k x) k v ≡ K .holds x v
   cell-set-same xs k x l v =
       ap (λ (ys : List Variants). getD ys k (λ _. false) v) (map-set (K .holds) xs k x)
@@ -116,6 +120,20 @@ module _ {S : Type 0} (K : Kind S) (rows cols : ℕ) (xs : List S) where
 
     pub grid-set : grid K rows cols (set xs (s * cols + t) x) ≡ written (grid K rows cols xs) s t (K .holds x)
     grid-set = fun-ext (λ s′. fun-ext (λ t′. fun-ext (λ v. written-at s′ t′ v)))
+
+-- a table is what its own places hold
+pub grid-front : {S : Type 0} (K : Kind S) (rows cols a : ℕ) (xs ys : List S) → rows * cols ≤ a → take a xs ≡ take a ys → grid K rows cols xs ≡ grid K rows cols ys
+grid-front {S} K rows cols a xs ys room e = fun-ext (λ s. fun-ext (λ t. fun-ext (λ v. at s t v)))
+  where
+    at : (s t v : ℕ) → grid K rows cols xs s t v ≡ grid K rows cols ys s t v
+    at s t v = elim (cases-bool (ltb s rows && ltb t cols)) [
+      | inl i ↦
+          let p = and-parts _ _ i in
+          let l : s * cols + t < a = omega (arith, place-below s t rows cols (ltb-true _ _ (p .0)) (ltb-true _ _ (p .1)), room) in
+          ap (λ (b : Bool). (ltb s rows && ltb t cols) && b)
+          (sym (cell-take K xs a (s * cols + t) v l) ∙ ap (λ (zs : List S). cell K zs (s * cols + t) v) e ∙ cell-take K ys a (s * cols + t) v l)
+      | inr i ↦ and-left _ _ i ∙ sym (and-left _ _ i)
+    ]
 
 -- a set of a kind holds only the kind's variants, so a table of its sets does
 pub cell-within : {S : Type 0} (K : Kind S) → ((x : S) (v : ℕ) → K .holds x v ≡ true → v < K .variants) → (xs : List S) (k v : ℕ) → cell K xs k v ≡ true → v < K .variants

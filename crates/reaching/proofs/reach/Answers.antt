@@ -19,7 +19,7 @@ rounds-requires g c κs =
     let e = c .fill .ensures in
     let rows : old .rows ≡ n = o .rows ∙ c .states-n .ensures .value in
     let cols : old .cols ≡ n = o .cols ∙ c .states-n .ensures .value in
-    let fits : Fits old = omega (arith, ap₂ (λ (a b : ℕ). a * b) (o .rows) (o .cols), ap length (o .cells)) in
+    let fits : Fits old = omega (arith, ap₂ (λ (a b : ℕ). a * b) rows cols, ap length (o .cells), c .places .ensures .value) in
     record {
       fits = fits-still old (c .fill .last .table) (e .kept) fits;
       rows = e .kept .rows ∙ rows;
