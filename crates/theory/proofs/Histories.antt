@@ -2,7 +2,7 @@
 use mathlib.Core.Path.{_≡_, refl, sym, ap, subst, subst₂, _∙_}
 use mathlib.Core.Bool.{true, false, cond}
 use mathlib.Core.Logic.{_⊎_, inl, inr, _↔_}
-use mathlib.Core.List.{List, [], _∷_, List·Memᴰ}
+use mathlib.Core.List.{List, [], _∷_, _++_, List·Memᴰ}
 use Prim.Native.Nat.{ℕ, zero, suc, _+_, _*_, _<_, _≤_}
 use native.Mathlib.Omega.{arith}
 use Rattle.std.proofs.shelf.Tests.{both-ways}
@@ -14,7 +14,7 @@ use Rattle.theory.specs.Tables.{Table, Family-simulation}
 use Rattle.theory.specs.Sweeps.{begun, keeps, swept, strikes, lost}
 use Rattle.theory.specs.Answers.{Answer}
 use Rattle.theory.specs.Calls.{Frame, Moment, Last, unswept, struck, Call, sweep, ask, settle, verdict, after-sweep, after-settle, Ran, spent, quiet, on, Does, swept-once, swept-refused, ran, run-refused, asked, ask-no-pair, ask-no-variant, settled-now, settle-refused, judged}
-use Rattle.theory.specs.Histories.{frame-of, first-moment, Turn, Same-families, strikes-answered, sweeps-allowed, strikes-in, sweeps-in, History, begin, then, Related, Unrelated, Lost-in-the-end, Exact, Promised, Comparing-is-exact}
+use Rattle.theory.specs.Histories.{frame-of, first-moment, Turn, Same-families, strikes-answered, sweeps-allowed, strikes-in, sweeps-in, History, Led, at-once, then, Related, Unrelated, Lost-in-the-end, Exact, Promised, Comparing-is-exact}
 use Rattle.theory.proofs.Cards.{members-out, members-in}
 use Rattle.theory.proofs.Counting.{count-one, count-bound, digits-same}
 use Rattle.theory.proofs.Sweeps.{Within, rows-less}
@@ -175,7 +175,7 @@ module _ (V : ℕ) (L R : Family) (listed : Variants) where
   step k w {m = m} (judged shut) same h = moved m k w (0 + k) (0 + w) (omega arith) (omega arith) h
 
   history-inv : {turns : List Turn} {m : Moment} → History V L R listed turns m → Inv m (strikes-in turns) (sweeps-in turns)
-  history-inv begin = begin-inv
+  history-inv at-once = begin-inv
   history-inv (then {turns = turns} c a h d same) = step (strikes-in turns) (sweeps-in turns) d same (history-inv h)
 
   module _ (kind : Of-kind V listed) (m : Moment) (k : ℕ) (i : Kept m k) where
@@ -267,7 +267,7 @@ module _ (V : ℕ) (L R : Family) (listed : Variants) where
     unsettled : moment .settled ≡ false
 
   sweeps : (n : ℕ) → Swept n
-  sweeps zero = record { turns = []; moment = first-moment L R listed; history = begin; allowed = refl; unsettled = refl }
+  sweeps zero = record { turns = []; moment = first-moment L R listed; history = at-once; allowed = refl; unsettled = refl }
   sweeps (suc n) =
       let r = sweeps n in
       record {
@@ -305,3 +305,15 @@ module _ (V : ℕ) (L R : Family) (listed : Variants) where
         one-number = λ K K′ c d. count-one c d;
         some-history-settles = (_, after-settle (at-rest .moment), then settle _ (at-rest .history) (settled-now (at-rest .unsettled) rest-quiet) tt, refl);
       }
+
+-- turns that lead on from where others led to
+pub led-on : {f : Frame} {L R : Family} {m₀ m₁ m₂ : Moment} (earlier later : List Turn) → Led f L R m₀ earlier m₁ → Led f L R m₁ later m₂ →
+    Led f L R m₀ (later ++ earlier) m₂
+led-on earlier [] before at-once = before
+led-on earlier (x ∷ later) before (then c a h d same) = then c a (led-on earlier later before h) d same
+
+-- and where they led to before
+pub led-before : {f : Frame} {L R : Family} {m₀ m : Moment} (later earlier : List Turn) → Led f L R m₀ (later ++ earlier) m →
+    (mid : Moment) × Led f L R m₀ earlier mid
+led-before {m = m} [] earlier h = (m, h)
+led-before (x ∷ later) earlier (then c a h d same) = led-before later earlier h

@@ -72,12 +72,15 @@ abbrev pub sweeps-in : List Turn → ℕ
 sweeps-in [] = 0
 sweeps-in (x ∷ xs) = sweeps-allowed (x .call) (x .answer) + sweeps-in xs
 
--- the turns, the newest first, led from begin to the moment: each call was taken, and brought begin's families where it was granted
-pub data History (V : ℕ) (L R : Family) (listed : Variants) : List Turn → Moment → Type 0 where
-  begin : History V L R listed [] (first-moment L R listed)
-  then : {turns : List Turn} {m m′ : Moment} (c : Call) (a : Answer) → History V L R listed turns m →
-      Does (frame-of V L R) m c a m′ → Same-families L R c a →
-      History V L R listed (record { call = c; answer = a } ∷ turns) m′
+-- the turns, the newest first, led a comparison of frame f from one moment to another: each call was taken, and brought L and R where it was granted
+pub data Led (f : Frame) (L R : Family) (from : Moment) : List Turn → Moment → Type 0 where
+  at-once : Led f L R from [] from
+  then : {turns : List Turn} {m m′ : Moment} (c : Call) (a : Answer) → Led f L R from turns m →
+      Does f m c a m′ → Same-families L R c a → Led f L R from (record { call = c; answer = a } ∷ turns) m′
+
+-- the turns led from begin to the moment
+abbrev pub History : (V : ℕ) (L R : Family) → Variants → List Turn → Moment → Type 0
+History V L R listed = Led (frame-of V L R) L R (first-moment L R listed)
 
 -- in variant v some simulation of the two machines relates the pair
 abbrev pub Related : Family → Family → ℕ → ℕ → ℕ → Type 0
