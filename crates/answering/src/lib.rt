@@ -1,3 +1,5 @@
+#![tactic(auto)]
+
 // In which variants a step of one side is answered by a step of the other with the same action.
 ghost use Rattle.std.specs.Prelude.{◌≡◌, ℕ, Bool, ◌||◌};
 ghost use Rattle.theory.specs.Sweeps.{answers, answered};

@@ -1,3 +1,5 @@
+#![tactic(auto)]
+
 // Runs every worked case, and prints of each what came out.
 
 mod kinds;

@@ -1,3 +1,5 @@
+#![tactic(auto)]
+
 // Comparing two families: which pairs of states a simulation relates, in which variants.
 mod asking;
 mod beginning;

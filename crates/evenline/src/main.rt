@@ -1,3 +1,5 @@
+#![tactic(auto)]
+
 // Compares the first worked line, and prints for each listed variant whether the right side can follow the left.
 use comparing::{Comparison, can_begin};
 use families::{Draft, Step, can_open};

@@ -1,3 +1,5 @@
+#![tactic(auto)]
+
 // Families of transition systems: drafts that take labels and steps, and closed families that are read.
 ghost use Rattle.families.specs.Parts.{FewStates, StartsInside, Room, LeaveStates, EnterStates};
 ghost use Rattle.families.specs.Models.{held_steps};

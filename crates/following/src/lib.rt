@@ -1,3 +1,5 @@
+#![tactic(auto)]
+
 // Following: in which variants a step of one side is followed by the other side, from a pair of states.
 ghost use Rattle.std.specs.Prelude.{◌≡◌, ℕ, ◌&&◌};
 ghost use Rattle.theory.specs.Judgements.{by_way_of, some_below};

@@ -1,3 +1,5 @@
+#![tactic(auto)]
+
 // Whole comparisons, and every promise together on one call.
 mod examining;
 mod whole;

@@ -1,3 +1,5 @@
+#![tactic(auto)]
+
 // Histories: requests to a comparison, carried out in order, each with its answer beside it.
 mod playing;
 

@@ -1,3 +1,5 @@
+#![tactic(auto)]
+
 // The worked lines as steps of Masks: each function lists the steps of the family that the worked theorem has
 // under the same name.
 ghost use Rattle.std.specs.Prelude.{◌≡◌, true};

@@ -1,3 +1,5 @@
+#![tactic(auto)]
+
 // Prints the machines of a worked line, variant by variant.
 mod moves;
 

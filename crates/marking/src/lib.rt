@@ -1,3 +1,5 @@
+#![tactic(auto)]
+
 // Marking: whether a candidate is a branching bisimulation in every listed variant, or its first fault.
 ghost use Rattle.std.specs.Prelude.{◌≡◌};
 ghost use Rattle.marking.specs.Faults.{rule_number};

@@ -1,3 +1,5 @@
+#![tactic(auto)]
+
 // The kind of sixty-four variants, one machine word a set.
 ghost use Rattle.std.specs.Prelude.{◌≡◌};
 ghost use Rattle.masks.specs.Words.{word};

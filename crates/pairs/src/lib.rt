@@ -1,3 +1,5 @@
+#![tactic(auto)]
+
 // The kind built of two kinds.
 ghost use Rattle.std.specs.Prelude.{◌≡◌, ℕ, ◌+◌, Bool, true, false, not, ◌&&◌, ◌||◌};
 ghost use Rattle.pairs.specs.Joins.{joined};

@@ -1,3 +1,5 @@
+#![tactic(auto)]
+
 // Silent reach: in which variants silent steps lead from one state to another.
 ghost use Rattle.std.specs.Prelude.{◌≡◌, ℕ, ◌<◌, ◌≤◌, ◌&&◌, Decides, MatchResult, ◌==◌, nat_lt};
 ghost use Rattle.theory.specs.Reach.{joined, stepped, round as rounded, Reaches, Rounds, reach_begun};

@@ -1,3 +1,5 @@
+#![tactic(auto)]
+
 // Why calls refuse.
 ghost use Rattle.std.specs.Prelude.{◌≡◌};
 ghost use Rattle.refusals.specs.Numbers.{number_of};

@@ -1,3 +1,5 @@
+#![tactic(auto)]
+
 // Tables of variant sets over lent memory: a row for each left state, in it a set for each right state.
 ghost use Rattle.std.specs.Prelude.{◌≡◌, ℕ, ◌+◌, ◌*◌, set};
 ghost use Rattle.tables.specs.Cells.{cell, grid};

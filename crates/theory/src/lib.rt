@@ -1,1 +1,3 @@
+#![tactic(auto)]
+
 // The published definitions over plain numbers, in specs/; no code.

@@ -1,3 +1,5 @@
+#![tactic(auto)]
+
 // Tests that run; the layers below hold no tests, so that they are proved once.
 #[cfg(test)]
 mod calls_refuse;

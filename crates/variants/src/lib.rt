@@ -1,3 +1,5 @@
+#![tactic(auto)]
+
 // Sets of variants, by kinds: what every kind offers, and the kind of one variant.
 ghost use Rattle.std.specs.Prelude.{◌≡◌, ℕ, ◌<◌, Bool, true, false, not, ◌&&◌, ◌||◌, Decides, nat_lt};
 ghost use Rattle.theory.specs.Sets.{card};

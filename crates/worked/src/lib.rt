@@ -1,3 +1,5 @@
+#![tactic(auto)]
+
 // Worked facts, in plain numbers.
 mod kinds;
 mod lines;
