@@ -37,8 +37,7 @@ loop-next-preserved g c =
     walk_more xs (λ z. z.from) t p here.below c.next-from-next.result (c.next-from-next.ensures ∙ ap (λ (s : ℕ). leaving_from xs s (p + 1)) here.key_is) (Found K xs T t y c.joined-found.result)
     (λ v.
     c.joined-found.ensures v
-    ∙ ap (λ (b : Bool). b || answers T x.from y v (step_of K x)) (here.there v)
-    ∙ ap (λ (s : ℕ). answered (map (step_of K) (take p xs)) T t y v || answers T s y v (step_of K x)) (here.has x read)
+    ∙ ap (λ (b : Bool). b || answers T t y v (step_of K x)) (here.there v)
     ∙ sym (answered_more K xs p x here.below read T t y v))
 
 pub returns : goal.returns

@@ -9,10 +9,10 @@ loop-s-preserved g c =
     let K = g.S.VariantSet in
     let old = c.args.table.now in
     let mid = c.loop-s.table in
-    let new = c.fill-row.new.table in
+    let new = c.fill_row.new.table in
     let s = c.loop-s.s in
     let i = c.loop-s.invariant in
-    let e = c.fill-row.ensures in
+    let e = c.fill_row.ensures in
     let B = g.O.Origin.stands c.args.origin.now in (
       resembles_trans old mid new i.0 e.kept,
       (λ fits r t v lr lt.
