@@ -21,7 +21,7 @@ past : {S : Type 0} (K : Kind S) (xs : List (Step S)) (T : Table) (t : ℕ) (y :
 past K xs T t y found j x l read ne h v = h v ∙ sym (answered_past K xs j x l read T t y v ne)
 
 pub loop-next-init : goal.loop-next-init
-loop-next-init g c = walk_none (held_steps c.args.family.now.parts) (λ x. x.from) c.args.t _ c.first-from-next.result c.first-from-next.ensures c.none-found.ensures
+loop-next-init g c = walk_none (held_steps c.args.family.now.parts) (λ x. x.from) c.args.t _ c.first_from-next.result c.first_from-next.ensures c.none-found.ensures
 
 pub loop-next-preserved : goal.loop-next-preserved
 loop-next-preserved g c =
@@ -34,7 +34,7 @@ loop-next-preserved g c =
     let x = c.index-steps-place.result in
     let here = walk_here xs (λ z. z.from) t (Found K xs T t y c.loop-next.found) (past K xs T t y c.loop-next.found) c.loop-next.next c.loop-next.invariant p c.in-Some.is in
     let read : x ≡ get_or xs p x = c.index-steps-place.is ∙ ap (λ (ys : List (Step _)). get_or ys p x) c.steps-steps.ensures in
-    walk_more xs (λ z. z.from) t p here.below c.next-from-next.result (c.next-from-next.ensures ∙ ap (λ (s : ℕ). leaving_from xs s (p + 1)) here.key_is) (Found K xs T t y c.joined-found.result)
+    walk_more xs (λ z. z.from) t p here.below c.next_from-next.result (c.next_from-next.ensures ∙ ap (λ (s : ℕ). leaving_from xs s (p + 1)) here.key_is) (Found K xs T t y c.joined-found.result)
     (λ v.
     c.joined-found.ensures v
     ∙ ap (λ (b : Bool). b || answers T t y v (step_of K x)) (here.there v)
@@ -46,5 +46,5 @@ returns g c v =
     let xs = held_steps c.args.family.now.parts in
     let T = each_row (g.P.Partners.paired c.args.partners.now) in
     let y = step_of K c.args.step in
-    walk_all xs (λ z. z.from) c.args.t (Found K xs T c.args.t y c.loop-next.found) (past K xs T c.args.t y c.loop-next.found) c.loop-next.next c.loop-next.invariant c.in-default.is v
+    walk_all xs (λ z. z.from) c.args.t (Found K xs T c.args.t y c.loop-next.found) (past K xs T c.args.t y c.loop-next.found) c.loop-next.next c.loop-next.invariant c.in_default.is v
     ∙ ap (λ (ys : List (Step _)). answered (map (step_of K) ys) T c.args.t y v) (take_all (length xs) xs (le_refl (length xs)))

@@ -11,4 +11,4 @@ pub loop-r-preserved : goal.loop-r-preserved
 loop-r-preserved g c v =
     let K = g.S.VariantSet in
     let ways = by_way_of (model K c.args.follower.now).steps (cell K c.args.row.now) (seen K c.args.view.now) c.args.own (step_of K c.args.step) v in
-    c.either-found.ensures v ∙ some_more c.loop-r.r ways _ _ (c.loop-r.invariant v) (c.by-way-of.ensures v)
+    c.either-found.ensures v ∙ some_more c.loop-r.r ways _ _ (c.loop-r.invariant v) (c.by_way_of.ensures v)

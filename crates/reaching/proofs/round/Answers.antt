@@ -31,7 +31,7 @@ past K xs n T U j x l read ne h = h ∙ sym (round_next K xs n T j x l read ∙ 
 pub loop-next-init : goal.loop-next-init
 loop-next-init g c = (
   resembles_refl c.args.table.now,
-  walk_none (held_steps c.args.family.now.parts) (λ x. x.action) 0 _ c.first-silent-next.result c.first-silent-next.ensures refl,
+  walk_none (held_steps c.args.family.now.parts) (λ x. x.action) 0 _ c.first_silent-next.result c.first_silent-next.ensures refl,
   (λ _. refl, λ _. refl),
 )
 
@@ -63,12 +63,11 @@ loop-next-preserved g c =
     let e = c.pass-kept.ensures in
     let here = walk_here xs (λ z. z.action) 0 (Made K xs n T U) (past K xs n T U) c.loop-next.next inv.1 p c.in-Some.is in
     let read : x ≡ get_or xs p x = c.index-steps-place.is ∙ ap (λ (ys : List (Step _)). get_or ys p x) c.steps-steps.ensures in
-    let after : W ≡ stepped n (step_of K x) U =
-    e.passed ∙ ap (λ (m : ℕ). passed (step_of K x) m U) inv.0.rows ∙ sym (cond-true (eqb x.action 0) _ _ (eq-eqb _ _ (here.has x read))) in
+    let after : W ≡ stepped n (step_of K x) U = e.stepped ∙ ap (λ (m : ℕ). stepped m (step_of K x) U) inv.0.rows in
     let before : Less T U = subst (Less T) (sym here.there) (round_more n (map (step_of K) (take p xs)) T) in
     let then : Less U W = subst (Less U) (sym after) (stepped_more n (step_of K x) U) in (
       resembles_trans old mid new inv.0 e.kept,
-      walk_more xs (λ z. z.action) 0 p here.below c.next-silent-next.result c.next-silent-next.ensures (Made K xs n T W)
+      walk_more xs (λ z. z.action) 0 p here.below c.next_silent-next.result c.next_silent-next.ensures (Made K xs n T W)
           (after ∙ ap (stepped n (step_of K x)) here.there ∙ sym (round_next K xs n T p x here.below read)),
       still_both c.loop-next.still c.pass-kept.result before then inv.2 e.still,
     )
@@ -84,7 +83,7 @@ returns g c =
     record {
       kept = i.0;
       rounded =
-          walk_all xs (λ z. z.action) 0 (Made K xs old.rows T U) (past K xs old.rows T U) c.loop-next.next i.1 c.in-default.is
+          walk_all xs (λ z. z.action) 0 (Made K xs old.rows T U) (past K xs old.rows T U) c.loop-next.next i.1 c.in_default.is
           ∙ ap (λ (ys : List (Step _)). round old.rows (map (step_of K) ys) T) (take_all (length xs) xs (le_refl (length xs)));
       still = i.2;
     }

@@ -55,8 +55,8 @@ loop-made-preserved g c =
       going_more V F (standing K mid) (standing K new) after i.1,
       (λ narrow.
           let made = counted_more V F (standing K mid) (standing K new) after c.loop-made.made inside (λ same. both_ways _ c.if-round.false (e.still.1 same)) (i.2 narrow) in
-          let exact : c.saturating-add-made.result ≡ c.loop-made.made + 1 =
-          counted_exact F.states V c.loop-made.made (missing V F.states (standing K mid)) c.saturating-add-made.result c.args.family.now.states.1 narrow (i.2 narrow).few c.saturating-add-made.ensures in
+          let exact : c.saturating_add-made.result ≡ c.loop-made.made + 1 =
+          counted_exact F.states V c.loop-made.made (missing V F.states (standing K mid)) c.saturating_add-made.result c.args.family.now.states.1 narrow (i.2 narrow).few c.saturating_add-made.ensures in
           subst (λ (r : ℕ). Counted V F r (standing K new)) (sym exact) made),
     )
 
@@ -77,7 +77,7 @@ returns-then-round g c =
       kept = resembles_trans old mid new i.0 e.kept;
       exact = going_last V F (standing K mid) (standing K new) after same i.1;
       rounds = λ narrow. let done = counted_last V F (standing K mid) (standing K new) after c.loop-made.made same (i.2 narrow) in
-          let exact : c.saturating-add-made.result ≡ c.loop-made.made + 1 =
-          counted_exact F.states V c.loop-made.made (missing V F.states (standing K mid)) c.saturating-add-made.result c.args.family.now.states.1 narrow (i.2 narrow).few c.saturating-add-made.ensures in
+          let exact : c.saturating_add-made.result ≡ c.loop-made.made + 1 =
+          counted_exact F.states V c.loop-made.made (missing V F.states (standing K mid)) c.saturating_add-made.result c.args.family.now.states.1 narrow (i.2 narrow).few c.saturating_add-made.ensures in
           subst (λ (r : ℕ). Rounds F.states F.steps (reach_begun V F.states) r (standing K new)) (sym exact) done;
     }

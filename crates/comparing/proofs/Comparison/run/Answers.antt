@@ -13,8 +13,8 @@ returns-then-not-brings g c =
       leaves = refl;
     }
 
-pub sweep-once-struck-requires : goal.sweep-once-struck-requires
-sweep-once-struck-requires g c =
+pub sweep_once-struck-requires : goal.sweep_once-struck-requires
+sweep_once-struck-requires g c =
     let K = g.S.VariantSet in
     brings_still K c.args.self.now c.loop-done.self (model K c.args.left.now) (model K c.args.right.now) c.loop-done.invariant.0
     (c.brings.ensures.0 c.if-not-brings.false)
@@ -28,18 +28,18 @@ loop-done-preserved g c =
     let b = c.args.budget in
     let d = c.loop-done.done in
     let n = c.loop-done.strikes in
-    let x = c.sweep-once-struck.result in
+    let x = c.sweep_once-struck.result in
     let old = c.args.self.now in
     let mid = c.loop-done.self in
-    let new = c.sweep-once-struck.new.self in
-    let w = c.sweep-once-struck.ensures in
+    let new = c.sweep_once-struck.new.self in
+    let w = c.sweep_once-struck.ensures in
     let i = c.loop-done.invariant in (
       continues_trans old mid new i.0 w.kept,
       (λ narrow j k m r.
           let few = i.2 narrow in
           let more = w.few narrow in
-          let sum : c.saturating-add-strikes.result ≡ n + x = omega arith in
-          ran_as V L R b (moment K old) m (d + suc j) ((d + 1) + j) (n + (x + k)) (c.saturating-add-strikes.result + k) (omega arith) (omega arith)
+          let sum : c.saturating_add-strikes.result ≡ n + x = omega arith in
+          ran_as V L R b (moment K old) m (d + suc j) ((d + 1) + j) (n + (x + k)) (c.saturating_add-strikes.result + k) (omega arith) (omega arith)
           (i.1 narrow (suc j) (x + k) m
           (run_on V L R b d c.loop-done-test.true (moment K mid) (moment K new) x (w.strikes narrow) (w.moment narrow) c.if-struck-eq0.false j k m r))),
       (λ narrow.
@@ -57,17 +57,17 @@ returns-then-struck-eq0 g c =
     let b = c.args.budget in
     let d = c.loop-done.done in
     let n = c.loop-done.strikes in
-    let x = c.sweep-once-struck.result in
+    let x = c.sweep_once-struck.result in
     let old = c.args.self.now in
     let mid = c.loop-done.self in
-    let new = c.sweep-once-struck.new.self in
-    let w = c.sweep-once-struck.ensures in
+    let new = c.sweep_once-struck.new.self in
+    let w = c.sweep_once-struck.ensures in
     let i = c.loop-done.invariant in
     record {
       does = λ narrow.
           let few = i.2 narrow in
           ran refl (c.brings.ensures.0 c.if-not-brings.false)
-          (ran_as V L R b (moment K old) (moment K new) (d + 1) (d + 1) (n + 0) c.saturating-add-strikes.result refl (omega (arith, c.if-struck-eq0.true))
+          (ran_as V L R b (moment K old) (moment K new) (d + 1) (d + 1) (n + 0) c.saturating_add-strikes.result refl (omega (arith, c.if-struck-eq0.true))
           (i.1 narrow 1 0 (moment K new)
           (run_quiet V L R b d c.loop-done-test.true (moment K mid) (moment K new) x (w.strikes narrow) (w.moment narrow) c.if-struck-eq0.true)));
       leaves = continues_trans old mid new i.0 w.kept;

@@ -17,11 +17,11 @@ pub returns : goal.returns
 returns g c =
     let K = g.S.VariantSet in
     let old = c.args.self.now in
-    let new = c.sweep-once.new.self in
-    let e = c.sweep-once.ensures in
+    let new = c.sweep_once.new.self in
+    let e = c.sweep_once.ensures in
     record {
       does = λ narrow.
-          sweep_does (frame K old) (moment K old) (moment K new) (model K c.args.left.now) (model K c.args.right.now) c.sweep-once.result
+          sweep_does (frame K old) (moment K old) (moment K new) (model K c.args.left.now) (model K c.args.right.now) c.sweep_once.result
           refl (c.brings.ensures.0 c.if-not-brings.false) (e.strikes narrow) (e.moment narrow);
       leaves = e.kept;
     }

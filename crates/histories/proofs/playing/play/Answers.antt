@@ -23,16 +23,16 @@ loop-done-preserved g c =
     (one_more K c.args.left.now c.args.right.now g.met.S.VariantSet.within c.args.stage c.args.turns.now xs i c.loop-done.reached
     c.loop-done.invariant l x c.index-turns-done.is t
     (subst (λ (y : Turn _). TakesOne K c.args.left.now c.args.right.now c.loop-done.reached y.request t) (sym c.index-turns-done.is) c.take-stage.ensures)
-    c.if-is-none.ensures)
+    c.if-is_none.ensures)
 
-pub returns-then-is-none : goal.returns-then-is-none
-returns-then-is-none g c =
+pub returns-then-is_none : goal.returns-then-is_none
+returns-then-is_none g c =
     let K = g.S.VariantSet in
     let t = c.take-stage.result in
     stopped K c.args.left.now c.args.right.now g.met.S.VariantSet.within c.args.stage c.args.turns.now c.loop-done.turns c.loop-done.done c.loop-done.reached
     c.loop-done.invariant (omega (arith, c.loop-done.auto.turns)) c.index-turns-done.result c.index-turns-done.is t
     (subst (λ (y : Turn _). TakesOne K c.args.left.now c.args.right.now c.loop-done.reached y.request t) (sym c.index-turns-done.is) c.take-stage.ensures)
-    c.if-is-none.ensures
+    c.if-is_none.ensures
 
 pub returns : goal.returns
 returns g c =

@@ -5,5 +5,5 @@ use Rattle.histories.proofs.playing.take.Goals as goal
 
 pub returns-in-Settled : goal.returns-in-Settled
 returns-in-Settled g c =
-    subst (λ (s : Stage _). TakesOne g.S.VariantSet c.args.left.now c.args.right.now s c.args.request c.take-settled.result) (sym c.in-Settled.is)
-    (c.take-settled.ensures c.args.left.now c.args.right.now)
+    subst (λ (s : Stage _). TakesOne g.S.VariantSet c.args.left.now c.args.right.now s c.args.request c.take_settled.result) (sym c.in-Settled.is)
+    (c.take_settled.ensures c.args.left.now c.args.right.now)

@@ -16,10 +16,10 @@ loop-step-preserved g c low =
     let ms = vec_items c.loop-step.moves in
     let so_far = c.loop-step.invariant low in
     elim c.if-has.branch [
-      | then-has+in-ok-push w ↦
+      | then-has+in_ok-push w ↦
           let held = has_held v (K.holds x.set v) c.has.result true low c.has.ensures w.if-has.true in
           ap (λ m. map move_of (vec_items m)) w.moves-is
-          ∙ ap (map move_of) w.in-ok-push.ensures.items
+          ∙ ap (map move_of) w.in_ok-push.ensures.items
           ∙ with_it K v xs i x c.loop-step-test.true c.step-item.is ms so_far _ held refl
       | else-has w ↦
           let held = has_held v (K.holds x.set v) c.has.result false low c.has.ensures w.if-has.false in

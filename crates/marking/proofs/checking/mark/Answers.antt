@@ -9,10 +9,10 @@ use Rattle.marking.proofs.checking.mark.Goals as goal
 pub returns : goal.returns
 returns g c =
     let K = g.S.VariantSet in
-    let E = c.reach-both.new.scratch in
+    let E = c.reach_both.new.scratch in
     let a = c.places.result in
-    let can = c.in-ok-can-mark.ensures in
-    let both = c.in-ok-reach-both.ensures in
+    let can = c.in_ok-can_mark.ensures in
+    let both = c.in_ok-reach_both.ensures in
     let rest : take (length E - a) (drop a E) ≡ drop (reach_places K c.args.left.now) E = take_rest E a ∙ ap (λ (k : ℕ). drop k E) c.places.ensures.value in
     record {
       taken = can;

@@ -15,7 +15,7 @@ returns-in-Some g c few reached =
     let H = pairs_of K c.args.left.now c.args.right.now c.args.candidate.now in
     let v = c.in-Some.variant in
     subst₂ (λ (a b : ℕ). Marked L R (K.holds c.args.list) H (granted (1 ∷ a ∷ b ∷ 0 ∷ v ∷ []))) (sym c.start.ensures.value) (sym c.start-in-Some.ensures.value)
-    (subst (StartFound L R (K.holds c.args.list) H) c.in-Some.is (c.unpaired-start.ensures few))
+    (subst (StartFound L R (K.holds c.args.list) H) c.in-Some.is (c.unpaired_start.ensures few))
 
 pub returns-in-Some-walk : goal.returns-in-Some-walk
 returns-in-Some-walk g c few reached =
@@ -24,7 +24,7 @@ returns-in-Some-walk g c few reached =
     let R = model K c.args.right.now in
     let H = pairs_of K c.args.left.now c.args.right.now c.args.candidate.now in
     subst (Found L R (K.holds c.args.list) H (at_step left L.states 0 0)) c.in-Some-walk.is
-    (c.walk.ensures few reached (K.holds c.args.list) (subst (StartFound L R (K.holds c.args.list) H) c.in-default.is (c.unpaired-start.ensures few)))
+    (c.walk.ensures few reached (K.holds c.args.list) (subst (StartFound L R (K.holds c.args.list) H) c.in_default.is (c.unpaired_start.ensures few)))
 
 pub returns-in-None : goal.returns-in-None
 returns-in-None g c few reached =
@@ -34,4 +34,4 @@ returns-in-None g c few reached =
     let H = pairs_of K c.args.left.now c.args.right.now c.args.candidate.now in
     clear_all L R (K.holds c.args.list) H L.states R.states (grid_inside K L.states R.states c.args.candidate.now)
     (subst (Found L R (K.holds c.args.list) H (at_step left L.states 0 0)) c.in-None.is
-    (c.walk.ensures few reached (K.holds c.args.list) (subst (StartFound L R (K.holds c.args.list) H) c.in-default.is (c.unpaired-start.ensures few))))
+    (c.walk.ensures few reached (K.holds c.args.list) (subst (StartFound L R (K.holds c.args.list) H) c.in_default.is (c.unpaired_start.ensures few))))

@@ -39,7 +39,7 @@ module _ {S : Type 0} (K : Kind S) (F : theory.Family) (H : Table) (s t : ℕ) (
 
 pub loop-next-init : goal.loop-next-init
 loop-next-init g c =
-    walk_none (held_steps c.args.mover.now.parts) (λ x. x.from) c.args.own _ c.first-from-next.result c.first-from-next.ensures (λ few inside row j x l. absurd (omega arith))
+    walk_none (held_steps c.args.mover.now.parts) (λ x. x.from) c.args.own _ c.first_from-next.result c.first_from-next.ensures (λ few inside row j x l. absurd (omega arith))
 
 pub loop-next-preserved : goal.loop-next-preserved
 loop-next-preserved g c =
@@ -54,8 +54,8 @@ loop-next-preserved g c =
     let x = c.index-steps-step.result in
     let read : x ≡ get_or xs p x = c.index-steps-step.is ∙ ap (λ (ys : List (Step _)). get_or ys p x) c.steps-steps.ensures in
     let at = here K F H s t row xs c.loop-next.next c.loop-next.invariant p c.in-Some.is x read c.lacking.result c.lacking.ensures in
-    walk_more xs (λ z. z.from) s p at.below c.next-from-next.result (c.next-from-next.ensures ∙ ap (λ (i : ℕ). leaving_from xs i (p + 1)) at.key_is) (Clear K F H s t row xs)
-    (goes_on K F H s t row xs c.loop-next.next c.loop-next.invariant p c.in-Some.is x read c.lacking.result c.lacking.ensures c.in-default-lacking.is)
+    walk_more xs (λ z. z.from) s p at.below c.next_from-next.result (c.next_from-next.ensures ∙ ap (λ (i : ℕ). leaving_from xs i (p + 1)) at.key_is) (Clear K F H s t row xs)
+    (goes_on K F H s t row xs c.loop-next.next c.loop-next.invariant p c.in-Some.is x read c.lacking.result c.lacking.ensures c.in_default-lacking.is)
 
 pub returns-in-Some : goal.returns-in-Some
 returns-in-Some g c =
@@ -76,4 +76,4 @@ returns g c few inside row =
     let H = seen K c.args.view.now in
     let xs = held_steps c.args.mover.now.parts in
     every_one K F H c.args.own c.args.other xs
-    (walk_all xs (λ z. z.from) c.args.own (Clear K F H c.args.own c.args.other c.args.row.now xs) (passes K F H c.args.own c.args.other c.args.row.now xs) c.loop-next.next c.loop-next.invariant c.in-default.is few inside row)
+    (walk_all xs (λ z. z.from) c.args.own (Clear K F H c.args.own c.args.other c.args.row.now xs) (passes K F H c.args.own c.args.other c.args.row.now xs) c.loop-next.next c.loop-next.invariant c.in_default.is few inside row)

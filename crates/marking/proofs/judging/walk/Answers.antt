@@ -8,20 +8,20 @@ use Rattle.marking.proofs.judging.walk.Goals as goal
 
 pub loop-t-preserved : goal.loop-t-preserved
 loop-t-preserved g c = (
-  is_none c.pair-found.result (sym c.is-some.ensures ∙ c.if-is-some.false),
+  is_none c.pair-found.result (sym c.is_some.ensures ∙ c.if-is_some.false),
   λ few reached listed clear.
       pair_passes g.S.VariantSet c.args.left.now c.args.right.now c.args.candidate.now c.args.left_reach.now c.args.right_reach.now
-      c.row-of-left-row.result.now c.row-of-right-row.result.now c.states-rows.result c.states-cols.result c.states-rows.ensures.value c.states-cols.ensures.value
-      c.search.s c.loop-t.t c.search-test.true c.loop-t-test.true c.row-of-left-row.ensures c.row-of-right-row.ensures
-      c.pair-found.result c.pair-found.ensures few reached listed (c.loop-t.invariant.1 few reached listed clear) (sym c.is-some.ensures ∙ c.if-is-some.false),
+      c.row_of-left_row.result.now c.row_of-right_row.result.now c.states-rows.result c.states-cols.result c.states-rows.ensures.value c.states-cols.ensures.value
+      c.search.s c.loop-t.t c.search-test.true c.loop-t-test.true c.row_of-left_row.ensures c.row_of-right_row.ensures
+      c.pair-found.result c.pair-found.ensures few reached listed (c.loop-t.invariant.1 few reached listed clear) (sym c.is_some.ensures ∙ c.if-is_some.false),
 )
 
-pub returns-then-is-some : goal.returns-then-is-some
-returns-then-is-some g c few reached listed clear =
+pub returns-then-is_some : goal.returns-then-is_some
+returns-then-is_some g c few reached listed clear =
     pair_fails g.S.VariantSet c.args.left.now c.args.right.now c.args.candidate.now c.args.left_reach.now c.args.right_reach.now
-    c.row-of-left-row.result.now c.row-of-right-row.result.now c.states-rows.result c.states-cols.result c.states-rows.ensures.value c.states-cols.ensures.value
-    c.search.s c.loop-t.t c.search-test.true c.loop-t-test.true c.row-of-left-row.ensures c.row-of-right-row.ensures
-    c.pair-found.result c.pair-found.ensures few reached listed (c.loop-t.invariant.1 few reached listed clear) (sym c.is-some.ensures ∙ c.if-is-some.true) _
+    c.row_of-left_row.result.now c.row_of-right_row.result.now c.states-rows.result c.states-cols.result c.states-rows.ensures.value c.states-cols.ensures.value
+    c.search.s c.loop-t.t c.search-test.true c.loop-t-test.true c.row_of-left_row.ensures c.row_of-right_row.ensures
+    c.pair-found.result c.pair-found.ensures few reached listed (c.loop-t.invariant.1 few reached listed clear) (sym c.is_some.ensures ∙ c.if-is_some.true) _
 
 pub search-preserved : goal.search-preserved
 search-preserved g c = (

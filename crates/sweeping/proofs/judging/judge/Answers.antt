@@ -2,7 +2,7 @@ use Rattle.std.proofs.Common.{◌≡◌, ℕ, ◌+◌, ◌<◌, ◌≤◌, Bool,
 use Rattle.theory.specs.Sets.{gone}
 use Rattle.theory.specs.Systems as theory
 use Rattle.theory.specs.Tables.{Table}
-use Rattle.theory.specs.Sweeps.{answered, kept}
+use Rattle.theory.specs.Sweeps.{answered, applies, kept}
 use Rattle.theory.proofs.Booleans.{and_assoc, and_first, and_true}
 use Rattle.theory.proofs.Cards.{card_le, gone_adds, gone_nothing, gone_same}
 use Rattle.variants.specs.declared.VariantSet.{Ghosts as Kind}
@@ -30,7 +30,7 @@ loop-next-init g c =
     let T = standing K c.args.table.now in
     let s = c.args.s in
     let t = c.args.t in (
-      walk_none (held_steps c.args.left.now.parts) (λ x. x.from) s _ c.first-from-next.result c.first-from-next.ensures (λ v. c.at.ensures v ∙ sym (and_true (T s t v))),
+      walk_none (held_steps c.args.left.now.parts) (λ x. x.from) s _ c.first_from-next.result c.first_from-next.ensures (λ v. c.at.ensures v ∙ sym (and_true (T s t v))),
       (λ _. sym (gone_same K.variants (T s t) (T s t) (K.holds c.at.result) (T s t) (λ v. refl) (λ v. c.at.ensures v) ∙ gone_nothing K.variants (T s t))),
     )
 
@@ -47,16 +47,16 @@ loop-next-preserved g c =
     let p = c.in-Some.place in
     let x = c.index-steps-place.result in
     let old = c.loop-next.judged.kept in
-    let new = c.after-step-judged.result.kept in
-    let e = c.after-step-judged.ensures in
+    let new = c.after_step-judged.result.kept in
+    let e = c.after_step-judged.ensures in
     let here = walk_here xs (λ z. z.from) s (Left K xs rs T s t old) (past K xs rs T s t old) c.loop-next.next c.loop-next.invariant.0 p c.in-Some.is in
     let read : x ≡ get_or xs p x = c.index-steps-place.is ∙ ap (λ (ys : List (Step _)). get_or ys p x) c.steps-steps.ensures in (
-      walk_more xs (λ z. z.from) s p here.below c.next-from-next.result (c.next-from-next.ensures ∙ ap (λ (i : ℕ). leaving_from xs i (p + 1)) here.key_is) (Left K xs rs T s t new)
+      walk_more xs (λ z. z.from) s p here.below c.next_from-next.result (c.next_from-next.ensures ∙ ap (λ (i : ℕ). leaving_from xs i (p + 1)) here.key_is) (Left K xs rs T s t new)
           (λ v.
           e.kept v
-          ∙ ap (λ (b : Bool). b && (not (h x.set v) || answered rs T t (step_of K x) v)) (here.there v)
-          ∙ sym (and_assoc (T s t v) (kept (map (step_of K) (take p xs)) rs T s t v) (not (h x.set v) || answered rs T t (step_of K x) v))
-          ∙ ap (λ (b : Bool). T s t v && b) (sym (kept_more K xs p x here.below read rs T s t v (here.has x read)))),
+          ∙ ap (λ (b : Bool). b && (not (applies s v (step_of K x)) || answered rs T t (step_of K x) v)) (here.there v)
+          ∙ sym (and_assoc (T s t v) (kept (map (step_of K) (take p xs)) rs T s t v) (not (applies s v (step_of K x)) || answered rs T t (step_of K x) v))
+          ∙ ap (λ (b : Bool). T s t v && b) (sym (kept_more K xs p x here.below read rs T s t v))),
       (λ narrow.
           let before : c.loop-next.judged.strikes ≡ gone V (T s t) (h old) = c.loop-next.invariant.1 narrow in
           let below : gone V (T s t) (h old) ≤ V = card_le V _ in
@@ -76,7 +76,7 @@ returns g c =
     let old = c.loop-next.judged.kept in
     record {
       kept = λ v.
-          walk_all xs (λ z. z.from) s (Left K xs rs T s t old) (past K xs rs T s t old) c.loop-next.next c.loop-next.invariant.0 c.in-default.is v
+          walk_all xs (λ z. z.from) s (Left K xs rs T s t old) (past K xs rs T s t old) c.loop-next.next c.loop-next.invariant.0 c.in_default.is v
           ∙ ap (λ (ys : List (Step _)). T s t v && kept (map (step_of K) ys) rs T s t v) (take_all (length xs) xs (le_refl (length xs)));
       strikes = c.loop-next.invariant.1;
     }

@@ -13,16 +13,16 @@ loop-s-preserved g c =
     let rule = rule_of K c.args.left.now c.args.right.now in
     let old = c.args.table.now in
     let mid = c.loop-s.table in
-    let new = c.sweep-row.new.table in
+    let new = c.sweep_row.new.table in
     let m = old.cols in
     let s = c.loop-s.s in
     let i = c.loop-s.invariant in
-    let e = c.sweep-row.ensures in
+    let e = c.sweep_row.ensures in
     let cols = i.0.cols in (
       resembles_trans old mid new i.0 e.kept,
       rows_more V rule m (standing K old) s (standing K mid) (standing K new) i.1 (e.visited ∙ ap (row_visited rule (standing K mid) s) cols),
       (λ narrow.
-          let sum = rows_struck_more V rule m (standing K old) s (standing K mid) c.loop-s.strikes c.sweep-row.result i.1 (i.2 narrow) (e.strikes narrow ∙ ap (row_struck V rule (standing K mid) s) cols) in
+          let sum = rows_struck_more V rule m (standing K old) s (standing K mid) c.loop-s.strikes c.sweep_row.result i.1 (i.2 narrow) (e.strikes narrow ∙ ap (row_struck V rule (standing K mid) s) cols) in
           let few = i.3 narrow in
           let row = e.few narrow in
           omega arith),
