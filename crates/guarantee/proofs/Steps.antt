@@ -10,14 +10,13 @@ use Rattle.variants.specs.Kinds.{Countable}
 use Rattle.families.specs.declared.Family.{Family}
 use Rattle.families.specs.Drafts.{model}
 use Rattle.tables.specs.declared.Table.{Table}
-use Rattle.tables.specs.Tables.{Resembles}
 use Rattle.comparing.specs.declared.Comparison.{Comparison}
 use Rattle.comparing.specs.Moments.{frame, moment, Begun}
 use Rattle.histories.specs.declared.Turn.{Turn}
 use Rattle.histories.specs.declared.Stage.TheVariants.{Open}
 use Rattle.histories.specs.declared.Played.{Played}
 use Rattle.histories.specs.Turns.{told}
-use Rattle.histories.specs.Stages.{stage_moment}
+use Rattle.histories.specs.Stages.{stage_moment, RoomKept}
 use Rattle.histories.specs.Plays.{Plays}
 use Rattle.guarantee.specs.Wholes.{BeyondUntouched}
 use Rattle.guarantee.specs.Steps.{IsHistory, KeepsPromises, StepsThrough}
@@ -30,7 +29,7 @@ module _ {S : Type 0} (K : Kind S) (left right : Family S) (list : S) (lent : Li
   R = model K right
 
   -- what a comparison that goes on from begin leaves untouched
-  pub untouched_still : (T : Table S) → Resembles c.table T → BeyondUntouched L.states R.states lent T
+  pub untouched_still : (T : Table S) → RoomKept c.table T → BeyondUntouched L.states R.states lent T
   untouched_still T kept =
       let pairs : c.table.rows * c.table.cols ≡ L.states * R.states = ap (λ (f : Frame). f.left_states * f.right_states) begun.begun_frame in
       record {

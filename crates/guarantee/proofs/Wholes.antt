@@ -143,5 +143,5 @@ module _ {S : Type 0} (K : Kind S) (left right : lib.Family S) (list : S) (lent 
           last = moment K c';
           ran = leads K.variants L R (K.holds list) 4294967295 (frame K c) (moment K c) (moment K c') r begun.begun_frame begun.begun_moment (runs few) exact j k got;
           settled = settle_leaves settles.does refl;
-          memory = subst (λ (T : Table S). BeyondUntouched L.states R.states lent T) (sym same) (untouched_still K left right list lent c begun c'.table continues.table);
+          memory = subst (λ (T : Table S). BeyondUntouched L.states R.states lent T) (sym same) (untouched_still K left right list lent c begun c'.table (record { rows = continues.table.rows; cols = continues.table.cols; size = continues.table.size; beyond = continues.table.beyond }));
         }

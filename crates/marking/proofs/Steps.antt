@@ -25,15 +25,12 @@ module _ {S : Type 0} (K : Kind S) (F : theory.Family) (H : Table) (s t : ℕ) (
     pub past : (x.from ≡ s → ⊥) → ClearBelow i → ClearBelow (i + 1)
     past ne before = followed_more F H s t (map (step_of K) xs) i (step_of K x) place before (judged_elsewhere F H s t (step_of K x) ne)
 
-    module _ (from : x.from ≡ s) (judged : Option ℕ) (is : Judged F H x.from t (step_of K x) judged) (before : ClearBelow i) where
-      here : Judged F H s t (step_of K x) judged
-      here = subst (λ (n : ℕ). Judged F H n t (step_of K x) judged) from is
-
+    module _ (judged : Option ℕ) (is : Judged F H s t (step_of K x) judged) (before : ClearBelow i) where
       pub one_more : judged ≡ None → ClearBelow (i + 1)
-      one_more e = followed_more F H s t (map (step_of K) xs) i (step_of K x) place before (subst (Judged F H s t (step_of K x)) e here)
+      one_more e = followed_more F H s t (map (step_of K) xs) i (step_of K x) place before (subst (Judged F H s t (step_of K x)) e is)
 
       pub first_one : (v : ℕ) → judged ≡ Some v → FirstUnfollowed F H s t (map (step_of K) xs) i v
-      first_one v e = record { step = step_of K x; place = place; judged = subst (Judged F H s t (step_of K x)) e here; before = before }
+      first_one v e = record { step = step_of K x; place = place; judged = subst (Judged F H s t (step_of K x)) e is; before = before }
 
   pub every_one : ClearBelow (length xs) → AllFollowed F H s t (map (step_of K) xs)
   every_one below = subst ClearBelow (sym (length-map xs (step_of K))) below

@@ -4,7 +4,7 @@ use Rattle.families.specs.Models.{step_of}
 use Rattle.machines.specs.Moves.{move_of}
 use Rattle.machines.proofs.Machines.{has_held, with_it, without_it}
 use Rattle.machines.proofs.moves.moves_of.Goals as goal
-use Rattle.machines.proofs.moves.moves_of.Goals.{then-has+in-ok-push, else-has}
+use Rattle.machines.proofs.moves.moves_of.Goals.{then-has+in_ok-push, else-has}
 
 pub loop-step-preserved : goal.loop-step-preserved
 loop-step-preserved g c low =

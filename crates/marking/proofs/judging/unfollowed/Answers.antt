@@ -27,15 +27,15 @@ module _ {S : Type 0} (K : Kind S) (F : theory.Family) (H : Table) (s t : ℕ) (
 
   -- a step that was read at a place of the chain, and its judgement
   module _ (next : Option ℕ) (walked : Walked xs (λ z. z.from) s Clear next) (p : ℕ) (e : next ≡ Some p) (x : Step S) (read : x ≡ get_or xs p x)
-      (judged : Option ℕ) (is : Reached (Judged F H x.from t (step_of K x) judged)) where
+      (judged : Option ℕ) (is : Reached (Judged F H s t (step_of K x) judged)) where
     here : Here xs (λ z. z.from) s Clear p
     here = walk_here xs (λ z. z.from) s Clear passes next walked p e
 
     goes_on : judged ≡ None → Clear (p + 1)
-    goes_on none few inside reach = one_more K F H s t xs p x here.below read (here.has x read) judged (is few inside reach) (here.there few inside reach) none
+    goes_on none few inside reach = one_more K F H s t xs p x here.below read judged (is few inside reach) (here.there few inside reach) none
 
     stops : (v : ℕ) → judged ≡ Some v → Reached (FirstUnfollowed F H s t (map (step_of K) xs) p v)
-    stops v some few inside reach = first_one K F H s t xs p x here.below read (here.has x read) judged (is few inside reach) (here.there few inside reach) v some
+    stops v some few inside reach = first_one K F H s t xs p x here.below read judged (is few inside reach) (here.there few inside reach) v some
 
 pub loop-next-init : goal.loop-next-init
 loop-next-init g c =
