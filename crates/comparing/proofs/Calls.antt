@@ -1,13 +1,13 @@
 -- The calls on a comparison, as the theory has them.
-use Rattle.std.proofs.Common.{◌≡◌, ℕ, suc, ◌+◌, ◌-◌, ◌<◌, ◌≤◌, Bool, true, false, cond, eqb, ◌⊎◌, [], ◌∷◌, Some, None, Option, sym, refl, ap, ◌∙◌, subst, ap₂, subst₂, inl, inr, ⊎_elim, arith}
+use Rattle.std.proofs.Common.{◌≡◌, ℕ, suc, ◌+◌, ◌-◌, ◌<◌, ◌≤◌, Bool, true, false, cond, eqb, ◌⊎◌, [], ◌∷◌, Some, None, Option, sym, refl, ◌∙◌, subst, ap₂, subst₂, inl, inr, ⊎_elim, arith}
 use mathlib.Core.Path.{fun_ext}
 use Rattle.std.proofs.lemmas.Bool.{cond-false, ne_eqb}
 use Rattle.theory.specs.Sets.{Variants, members}
 use Rattle.theory.specs.Systems.{Family}
 use Rattle.theory.specs.Tables.{Table}
 use Rattle.theory.specs.Sweeps.{strikes}
-use Rattle.theory.specs.Answers.{Answer, granted, refused}
-use Rattle.theory.specs.Calls.{Frame, Moment, unswept, struck, Brings, after_sweep, sweep, ask, settle, verdict, Ran, spent, quiet, on, Does, swept_once, asked, ask_no_pair, ask_no_variant, settled_now, settle_refused, judged}
+use Rattle.theory.specs.Answers.{granted, refused}
+use Rattle.theory.specs.Calls.{Frame, Moment, struck, Brings, after_sweep, sweep, ask, settle, verdict, Ran, spent, quiet, on, Does, swept_once, asked, ask_no_pair, ask_no_variant, settled_now, settle_refused, judged}
 use Rattle.tables.proofs.Tables.{resembles_trans}
 use Rattle.comparing.specs.declared.Comparison.{Comparison}
 use Rattle.variants.specs.declared.VariantSet.{Ghosts as Kind}

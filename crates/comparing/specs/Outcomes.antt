@@ -1,5 +1,5 @@
 -- What the calls on comparisons answer and leave, by the outcomes of the theory.
-use Rattle.std.specs.Prelude.{◌≡◌, ℕ, ◌*◌, ◌≤◌, Bool, cond, List, [], ◌∷◌, Some, None, Option, Result, ◌==◌, nat_lt}
+use Rattle.std.specs.Prelude.{◌≡◌, ℕ, ◌*◌, ◌≤◌, Bool, cond, [], ◌∷◌, Some, None, Option, Result, ◌==◌, nat_lt}
 use Rattle.theory.specs.Sets.{members}
 use Rattle.theory.specs.Answers.{Answer, granted, refused}
 use Rattle.theory.specs.Calls.{Frame, Moment, Does, sweep, run, ask, settle, verdict}

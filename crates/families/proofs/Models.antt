@@ -15,7 +15,7 @@ use Rattle.families.specs.declared.parts.Step.{Step}
 use Rattle.families.specs.declared.parts.Parts.{Parts}
 use Rattle.families.specs.Parts.{Pushed}
 use Rattle.families.specs.declared.Family.{Family}
-use Rattle.families.specs.Models.{step_of, held_steps, meaning, with_label, with_step}
+use Rattle.families.specs.Models.{step_of, held_steps, meaning, with_step}
 
 -- the label of each state
 abbrev labelling : List ℕ → ℕ → ℕ

@@ -1,5 +1,5 @@
 -- What steps and parts mean: the theory's family.
-use Rattle.std.specs.Prelude.{ℕ, Bool, cond, List, [], ◌∷◌, ◌++◌, map, take, ◌==◌, slice_index}
+use Rattle.std.specs.Prelude.{ℕ, cond, List, [], ◌∷◌, ◌++◌, map, take, ◌==◌, slice_index}
 use Rattle.theory.specs.Systems as theory
 use Rattle.variants.specs.declared.VariantSet.{Ghosts as Kind}
 use Rattle.families.specs.declared.parts.Step.{Step}

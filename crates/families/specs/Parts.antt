@@ -1,5 +1,5 @@
 -- The parts of a draft or a closed family, and what they keep to.
-use Rattle.std.specs.Prelude.{◌≡◌, ℕ, ◌+◌, ◌<◌, ◌≤◌, min, Bool, length, slice_set}
+use Rattle.std.specs.Prelude.{◌≡◌, ℕ, ◌+◌, ◌<◌, ◌≤◌, min, length, slice_set}
 use Rattle.std.specs.List.{AllWithin}
 use Rattle.families.specs.declared.parts.Step.{Step}
 use Rattle.families.specs.declared.parts.Parts.{Parts}

@@ -1,5 +1,5 @@
 -- Requests that are carried out from begin on.
-use Rattle.std.proofs.Common.{◌≡◌, ℕ, ◌*◌, ◌≤◌, List, [], ◌++◌, length, take, drop, sym, ap, ◌∙◌, subst, subst₂}
+use Rattle.std.proofs.Common.{◌≡◌, ℕ, ◌*◌, ◌≤◌, List, [], take, drop, sym, ap, ◌∙◌, subst, subst₂}
 use Rattle.std.proofs.lemmas.List.{append-nil}
 use Rattle.theory.specs.Systems as theory
 use Rattle.theory.specs.Calls.{Frame, Moment}
@@ -11,7 +11,7 @@ use Rattle.families.specs.declared.Family.{Family}
 use Rattle.families.specs.Drafts.{model}
 use Rattle.tables.specs.declared.Table.{Table}
 use Rattle.comparing.specs.declared.Comparison.{Comparison}
-use Rattle.comparing.specs.Moments.{frame, moment, Begun}
+use Rattle.comparing.specs.Moments.{Begun}
 use Rattle.histories.specs.declared.Turn.{Turn}
 use Rattle.histories.specs.declared.Stage.TheVariants.{Open}
 use Rattle.histories.specs.declared.Played.{Played}

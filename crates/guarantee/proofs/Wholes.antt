@@ -1,11 +1,10 @@
 -- A run with begin's families and sweeps enough, and the settling after it.
-use Rattle.std.proofs.Common.{◌≡◌, ℕ, ◌+◌, ◌*◌, ◌<◌, ◌≤◌, true, false, ◌↔◌, List, [], ◌∷◌, is_ok, Some, None, Ok, Err, Option, Result, sym, refl, ap, ◌∙◌, subst, subst₂, mul-le-mul, arith, MatchResult}
+use Rattle.std.proofs.Common.{◌≡◌, ℕ, ◌*◌, ◌<◌, ◌≤◌, true, false, List, [], ◌∷◌, is_ok, Some, None, Ok, Err, Option, Result, sym, refl, ap, ◌∙◌, subst, subst₂, mul-le-mul, arith, MatchResult}
 use Rattle.theory.specs.Sets.{Variants}
 use Rattle.theory.specs.Systems.{Family}
-use Rattle.theory.specs.Tables.{Largest}
 use Rattle.theory.specs.Answers.{Answer, granted}
-use Rattle.theory.specs.Calls.{Frame, Moment, Last, struck, Brings, run, settle, Ran, Does, ran, run_refused, settled_now, settle_refused, after_settle}
-use Rattle.theory.specs.Histories.{frame_of, first_moment, Turn, at_once, then, Led, History, Promised, LostInTheEnd, ComparingIsExact, strikes_in, sweeps_in}
+use Rattle.theory.specs.Calls.{Frame, Moment, struck, Brings, run, settle, Ran, Does, ran, run_refused, settled_now, settle_refused, after_settle}
+use Rattle.theory.specs.Histories.{frame_of, first_moment, Turn, at_once, then, History, Promised, LostInTheEnd, ComparingIsExact, strikes_in}
 use Rattle.theory.proofs.Calling.{calls_have_one_outcome}
 use Rattle.refusals.specs.declared.Refusal.{Refusal}
 use Rattle.variants.specs.declared.VariantSet.{Ghosts as Kind}

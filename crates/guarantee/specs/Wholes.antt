@@ -1,8 +1,7 @@
 -- A whole comparison, from begin to the settled table, and what it says of machines.
 use Rattle.std.specs.Prelude.{◌≡◌, ℕ, ◌*◌, true, ◌↔◌, List, length, drop}
-use Rattle.theory.specs.Systems as theory
 use Rattle.theory.specs.Tables.{Largest}
-use Rattle.theory.specs.Calls.{Frame, Moment, Ran, after_settle}
+use Rattle.theory.specs.Calls.{Moment, Ran, after_settle}
 use Rattle.theory.specs.Histories.{frame_of, first_moment, Related, LostInTheEnd}
 use Rattle.variants.specs.declared.VariantSet.{Ghosts as Kind}
 use Rattle.families.specs.declared.Family.{Family}

@@ -1,6 +1,6 @@
 -- Turn by turn.
 use Rattle.std.proofs.Common.{◌≡◌, ℕ, ◌+◌, ◌*◌, ◌<◌, ◌≤◌, true, false, List, [], ◌∷◌, ◌++◌, map, length, get_or, take, drop, set, is_some, Some, None, Option, sym, refl, ap, ◌∙◌, subst, ap₂, subst₂, append_assoc, arith, take-append-drop}
-use Rattle.std.proofs.lemmas.List.{append-nil, map-set, set-get_or, get_or-map, length-map, take_more_set, take-take, drop-drop, drop-set-lt, drop_more, length-set, drop_all}
+use Rattle.std.proofs.lemmas.List.{append-nil, map-set, set-get_or, get_or-map, take_more_set, take-take, drop-drop, drop-set-lt, drop_more, length-set, drop_all}
 use Rattle.std.proofs.lemmas.Bool.{both_ways}
 use Rattle.theory.specs.Systems as theory
 use Rattle.theory.specs.Answers.{Answer}
@@ -19,7 +19,6 @@ use Rattle.histories.specs.declared.Reply.{Reply}
 use Rattle.histories.specs.declared.Turn.{Turn}
 use Rattle.histories.specs.declared.Stage.{Stage}
 use Rattle.histories.specs.declared.Taken.{Taken}
-use Rattle.histories.specs.declared.Played.{Played}
 use Rattle.histories.specs.Turns.{call_of, answer_beside, turn_of, told}
 use Rattle.histories.specs.Stages.{stage_table, stage_frame, stage_moment, RoomKept}
 use Rattle.histories.specs.Plays.{Replies, TakesOne, KeepsPromises, Plays}

@@ -1,5 +1,4 @@
 -- The moves of a machine, as the theory has them.
-use Rattle.std.specs.Prelude.{ℕ}
 use Rattle.theory.specs.Systems as theory
 use Rattle.machines.specs.declared.moves.Move.{Move}
 

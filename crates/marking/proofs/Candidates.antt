@@ -1,5 +1,5 @@
 -- A candidate that holds listed variants only.
-use Rattle.std.proofs.Common.{◌≡◌, ℕ, ◌+◌, ◌*◌, ◌<◌, true, List, take, ◌∙◌, arith}
+use Rattle.std.proofs.Common.{◌≡◌, ℕ, ◌+◌, ◌*◌, ◌<◌, true, List, take, ◌∙◌}
 use Rattle.std.proofs.lemmas.Bool.{and_parts}
 use Rattle.theory.specs.Marks.{Candidate, MarkingIsExact}
 use Rattle.theory.proofs.Marking.{marking_is_exact}

@@ -1,9 +1,7 @@
 -- A pair: the left steps, then the right steps.
-use Rattle.std.proofs.Common.{◌≡◌, ℕ, ◌+◌, ◌<◌, List, [], ◌∷◌, Some, None, Option, sym, ◌∙◌, subst, subst₂}
+use Rattle.std.proofs.Common.{◌≡◌, ℕ, ◌+◌, List, [], ◌∷◌, Some, None, Option, sym, subst, subst₂}
 use Rattle.theory.specs.Sets.{Variants}
-use Rattle.theory.specs.Systems as theory
-use Rattle.theory.specs.Tables.{Table}
-use Rattle.theory.specs.Answers.{Answer, granted}
+use Rattle.theory.specs.Answers.{granted}
 use Rattle.theory.specs.Marks.{Side, left, right, mover, follower, own, other, facing, at_step, kind_of}
 use Rattle.theory.specs.Marks as marks
 use Rattle.theory.specs.Judgements.{Clear}
@@ -15,7 +13,7 @@ use Rattle.tables.specs.Cells.{grid}
 use Rattle.marking.specs.declared.judging.Lapse.{Lapse}
 use Rattle.marking.specs.declared.Fault.{Fault}
 use Rattle.marking.specs.Faults.{fault_answer}
-use Rattle.marking.specs.Judgements.{Lapsed, Found, pairs_of}
+use Rattle.marking.specs.Judgements.{Lapsed, pairs_of}
 
 module _ {S : Type 0} (K : Kind S) (L R : Family S) (candidate : List S) (rows cols : ℕ) (er : rows ≡ (model K L).states) (ec : cols ≡ (model K R).states)
     (s t : ℕ) (listed : Variants) (clear : Clear (model K L) (model K R) listed (pairs_of K L R candidate) (at_step left s t 0)) where

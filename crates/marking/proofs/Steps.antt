@@ -1,5 +1,5 @@
 -- The steps of one side at a pair, one after the other.
-use Rattle.std.proofs.Common.{◌≡◌, ℕ, ◌+◌, ◌<◌, List, map, length, get_or, Some, None, Option, sym, refl, ap, ◌∙◌, subst}
+use Rattle.std.proofs.Common.{◌≡◌, ℕ, ◌+◌, ◌<◌, List, map, length, get_or, Some, None, Option, sym, subst}
 use Rattle.std.proofs.lemmas.List.{length-map}
 use Rattle.theory.specs.Systems as theory
 use Rattle.theory.specs.Tables.{Table}

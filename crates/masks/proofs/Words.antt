@@ -1,5 +1,5 @@
 -- What a word holds after each call on masks.
-use Rattle.std.proofs.Common.{◌≡◌, ℕ, ◌+◌, ◌-◌, ◌*◌, ◌/◌, ◌%◌, ◌^◌, ◌<◌, ◌≤◌, min, Bool, true, false, not, ◌&&◌, ◌||◌, eqb, ltb, Some, Decides, sym, refl, ap, ◌∙◌, arith}
+use Rattle.std.proofs.Common.{◌≡◌, ℕ, ◌-◌, ◌*◌, ◌/◌, ◌%◌, ◌^◌, ◌<◌, Bool, true, false, not, ◌&&◌, ◌||◌, eqb, ltb, Some, Decides, refl, ap, ◌∙◌, arith}
 use lib.Bits.{bit_and, bit_or, and_mask}
 use lib.Count.{ones, ones-le, count_trailing_zeros}
 use Rattle.std.proofs.lemmas.Nat.{one_shl}

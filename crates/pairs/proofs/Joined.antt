@@ -1,5 +1,5 @@
 -- Two sets side by side, in one.
-use Rattle.std.proofs.Common.{◌≡◌, ℕ, zero, suc, ◌+◌, ◌-◌, ◌<◌, Bool, cond, ltb, sym, refl, ap, ◌∙◌, ap₂, add-zero, add_assoc, add-suc, arith}
+use Rattle.std.proofs.Common.{◌≡◌, ℕ, zero, suc, ◌+◌, ◌-◌, ◌<◌, Bool, cond, ltb, sym, ap, ◌∙◌, ap₂, add-zero, add_assoc, add-suc, arith}
 use Rattle.std.proofs.lemmas.Bool.{lt-ltb, le-ltb, cond-true, cond-false}
 use Rattle.theory.specs.Sets.{Variants, card}
 use Rattle.theory.proofs.Cards.{card_same}

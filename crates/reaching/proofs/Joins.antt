@@ -1,5 +1,5 @@
 -- What one write leaves of a table of reach.
-use Rattle.std.proofs.Common.{◌≡◌, ℕ, ◌+◌, ◌-◌, ◌*◌, ◌^◌, ◌<◌, ◌≤◌, min, Bool, true, false, cond, ◌&&◌, ◌||◌, eqb, Decides, sym, refl, ap, ◌∙◌, ap₂, inl, inr, mul-le-mul, arith}
+use Rattle.std.proofs.Common.{◌≡◌, ℕ, ◌+◌, ◌-◌, ◌*◌, ◌^◌, ◌<◌, ◌≤◌, min, Bool, true, ◌&&◌, ◌||◌, eqb, Decides, sym, ap, ◌∙◌, ap₂, inl, inr, mul-le-mul, arith}
 use Rattle.std.proofs.lemmas.Bool.{and_parts, eqb-true, cases_Bool, cond-true, cond-false}
 use Rattle.theory.specs.Sets.{Variants}
 use Rattle.theory.specs.Systems.{Step}

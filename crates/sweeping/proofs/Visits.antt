@@ -1,5 +1,5 @@
 -- A table after a visit, and after several.
-use Rattle.std.proofs.Common.{◌≡◌, ℕ, ◌+◌, ◌*◌, Bool, true, false, cond, ◌&&◌, eqb, length, sym, refl, ap, ◌∙◌, ap₂, inl, inr}
+use Rattle.std.proofs.Common.{◌≡◌, ℕ, ◌+◌, ◌*◌, false, ◌&&◌, eqb, length, sym, refl, ap, ◌∙◌, ap₂, inl, inr}
 use mathlib.Core.Path.{fun_ext}
 use Rattle.std.proofs.lemmas.Bool.{and_parts, and_left, and_from, eqb-true, eq-eqb, cases_Bool, cases_lt, cond-true, cond-false}
 use Rattle.theory.specs.Tables as theory

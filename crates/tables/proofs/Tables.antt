@@ -1,12 +1,12 @@
 -- Tables that resemble each other, and tables that are filled.
-use Rattle.std.proofs.Common.{◌≡◌, ℕ, ◌+◌, ◌*◌, ◌<◌, Bool, cond, ◌&&◌, eqb, ltb, ◌⊎◌, length, drop, sym, refl, ap, ◌∙◌, subst, ap₂, inl, inr, arith}
+use Rattle.std.proofs.Common.{◌≡◌, ℕ, ◌+◌, ◌*◌, ◌<◌, Bool, ◌&&◌, eqb, ltb, ◌⊎◌, length, drop, sym, refl, ap, ◌∙◌, subst, ap₂, inl, inr, arith}
 use mathlib.Core.Path.{fun_ext}
 use Rattle.std.proofs.lemmas.Bool.{and_from, and_left, and_right, and_parts, ltb-true, eq-eqb, ne_eqb, cond-true, cond-false, cases_eq, cases_lt, cases_Bool}
 use Rattle.theory.specs.Sets.{Variants}
 use Rattle.theory.specs.Tables as theory
 use Rattle.variants.specs.declared.VariantSet.{Ghosts as Kind}
 use Rattle.tables.specs.declared.Table.{Table}
-use Rattle.tables.specs.Cells.{grid, bounded}
+use Rattle.tables.specs.Cells.{bounded}
 use Rattle.tables.specs.Tables.{standing, written, Fits, Has, Resembles}
 use Rattle.tables.proofs.Places.{place_below}
 

@@ -1,5 +1,5 @@
 -- Tables of variant sets over lent memory.
-use Rattle.std.specs.Prelude.{◌≡◌, ℕ, ◌+◌, ◌*◌, ◌<◌, ◌≤◌, cond, ◌&&◌, List, length, drop, ◌==◌}
+use Rattle.std.specs.Prelude.{◌≡◌, ℕ, ◌+◌, ◌*◌, ◌<◌, ◌≤◌, cond, ◌&&◌, length, drop, ◌==◌}
 use Rattle.theory.specs.Sets.{Variants}
 use Rattle.theory.specs.Tables as theory
 use Rattle.variants.specs.declared.VariantSet.{Ghosts as Kind}

@@ -5,7 +5,7 @@ use Rattle.theory.specs.Sets.{Variants}
 use Rattle.theory.specs.Systems.{Step, Family}
 use Rattle.theory.specs.Tables.{Table}
 use Rattle.theory.specs.Answers.{granted}
-use Rattle.theory.specs.Marks.{At, Side, left, right, mover, follower, own, other, facing, StepFollowed, Spot, at_starts, at_step, EarlierPair, EarlierStep, Before, Asks, of_starts, of_step, Meets, by_starts, by_step, Passes, FirstFault, fault, Marked, accepted, faulty}
+use Rattle.theory.specs.Marks.{At, Side, left, right, mover, follower, own, other, facing, StepFollowed, Spot, at_starts, at_step, EarlierPair, Before, Asks, of_starts, of_step, Meets, by_starts, by_step, Passes, fault, Marked, accepted, faulty}
 use Rattle.theory.specs.Judgements.{Due, AllFollowed, FirstUnfollowed, Clear}
 use Rattle.theory.proofs.Marking.{at_same, at_below, met_followed}
 

@@ -1,15 +1,14 @@
 -- Every order of calls keeps a comparison exact.
-use Rattle.std.proofs.Common.{◌≡◌, ℕ, zero, suc, ◌+◌, ◌*◌, ◌<◌, ◌≤◌, true, false, cond, ◌⊎◌, ◌↔◌, List, [], ◌∷◌, ◌++◌, sym, refl, ap, ◌∙◌, subst, subst₂, inl, inr, arith}
+use Rattle.std.proofs.Common.{◌≡◌, ℕ, zero, suc, ◌+◌, ◌*◌, ◌<◌, ◌≤◌, true, false, cond, ◌⊎◌, ◌↔◌, List, [], ◌∷◌, ◌++◌, sym, refl, ap, subst, subst₂, inl, inr, arith}
 use mathlib.Core.List.{Memᴰ}
 use Rattle.std.proofs.lemmas.Bool.{both_ways}
 use Rattle.theory.specs.Sets.{Variants, OfKind, members}
-use Rattle.theory.specs.Counts.{Count}
 use Rattle.theory.specs.Systems.{Family, machine, agree}
 use Rattle.theory.specs.Simulations.{Pairs, Simulation}
 use Rattle.theory.specs.Tables.{Table, FamilySimulation}
 use Rattle.theory.specs.Sweeps.{begun, keeps, swept, strikes, lost}
 use Rattle.theory.specs.Answers.{Answer}
-use Rattle.theory.specs.Calls.{Frame, Moment, Last, unswept, struck, Call, sweep, ask, settle, verdict, after_sweep, after_settle, Ran, spent, quiet, on, Does, swept_once, swept_refused, ran, run_refused, asked, ask_no_pair, ask_no_variant, settled_now, settle_refused, judged}
+use Rattle.theory.specs.Calls.{Frame, Moment, unswept, struck, Call, sweep, ask, settle, verdict, after_sweep, after_settle, Ran, spent, quiet, on, Does, swept_once, swept_refused, ran, run_refused, asked, ask_no_pair, ask_no_variant, settled_now, settle_refused, judged}
 use Rattle.theory.specs.Histories.{frame_of, first_moment, Turn, SameFamilies, strikes_answered, sweeps_allowed, strikes_in, sweeps_in, History, Led, at_once, then, Related, Unrelated, LostInTheEnd, Exact, Promised, ComparingIsExact}
 use Rattle.theory.proofs.Cards.{members_out, members_in}
 use Rattle.theory.proofs.Counting.{count_one, count_bound, digits_same}

@@ -1,12 +1,11 @@
 -- Following a step, tested by way of each state, and the least variant in which it is not followed.
-use Rattle.std.proofs.Common.{◌≡◌, ℕ, zero, suc, ◌+◌, ◌<◌, ◌≤◌, Bool, true, false, not, ◌&&◌, ◌||◌, eqb, ◌⊎◌, List, Some, None, Decides, Option, sym, refl, ap, ◌∙◌, subst, subst₂, inl, inr, add-one, arith}
+use Rattle.std.proofs.Common.{◌≡◌, ℕ, zero, suc, ◌+◌, ◌<◌, ◌≤◌, Bool, true, false, not, ◌&&◌, ◌||◌, List, Some, None, Decides, sym, refl, ap, ◌∙◌, subst, subst₂, inl, inr, add-one, arith}
 use mathlib.Core.List.{Memᴰ}
 use Rattle.std.proofs.lemmas.Bool.{and_parts, and_from, or_cases, or_left, or_right, eqb-true, eq-eqb, cases_eq, cases_Bool, both_ways, not_from_false, not-true}
 use Rattle.theory.specs.Sets.{Variants}
 use Rattle.theory.specs.Systems.{Step, Family, machine, Goes, silence}
 use Rattle.theory.specs.Tables.{Table}
-use Rattle.theory.specs.Bisimulations.{Silently, stays, goes, Followed}
-use Rattle.theory.specs.Sweeps.{answered}
+use Rattle.theory.specs.Bisimulations.{Silently, stays, goes}
 use Rattle.theory.specs.Marks.{At, StepFollowed}
 use Rattle.theory.specs.Judgements.{ReachRow, by_way_of, some_below, Due, Judged, FollowedBelow}
 use Rattle.theory.proofs.Systems.{step_goes, goes_step}

@@ -1,5 +1,5 @@
 -- What sweeps by a rule lose, and that they come to rest on what the rule's sets of pairs relate.
-use Rattle.std.proofs.Common.{◌≡◌, ℕ, ◌+◌, ◌*◌, ◌<◌, ◌≤◌, true, false, not, ◌&&◌, ltb, ◌⊎◌, sym, refl, subst, inl, inr, mul_assoc, arith}
+use Rattle.std.proofs.Common.{◌≡◌, ℕ, ◌+◌, ◌*◌, ◌<◌, ◌≤◌, true, false, not, ◌&&◌, ltb, sym, subst, inl, inr, mul_assoc}
 use Rattle.std.proofs.lemmas.Bool.{and_parts, and_from, and_left, and_right, ltb-true, lt-ltb, both_ways, cases_Bool, not-true, not-false, not_from_true, not_from_false}
 use Rattle.theory.specs.Sets.{Variants}
 use Rattle.theory.specs.Counts.{Count}

@@ -7,7 +7,7 @@ use Rattle.theory.specs.Systems.{Step, Family, machine, Goes}
 use Rattle.theory.specs.Tables.{Table}
 use Rattle.theory.specs.Bisimulations.{Followed, BranchingBisimulation}
 use Rattle.theory.specs.Answers.{Answer, granted}
-use Rattle.theory.specs.Marks.{At, here, there, Side, left, right, mover, follower, own, other, facing, StepFollowed, Spot, at_starts, at_step, EarlierPair, EarlierStep, Before, Asks, of_starts, of_step, Meets, by_starts, by_step, Passes, FirstFault, kind_of, fault, Marked, accepted, faulty, Candidate, Bisimulates, MarkingIsExact}
+use Rattle.theory.specs.Marks.{At, here, there, Side, left, right, mover, follower, own, other, facing, StepFollowed, Spot, at_starts, at_step, EarlierPair, EarlierStep, Before, Asks, of_starts, of_step, Meets, by_starts, by_step, Passes, FirstFault, fault, Marked, accepted, faulty, Candidate, Bisimulates, MarkingIsExact}
 use Rattle.theory.proofs.Systems.{step_goes, goes_step}
 
 -- the steps of a list by their places

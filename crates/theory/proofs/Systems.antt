@@ -1,9 +1,9 @@
 -- The machine of a variant, step by step.
-use Rattle.std.proofs.Common.{◌≡◌, ℕ, Bool, true, false, cond, ◌⊎◌, List, [], ◌∷◌, ◌++◌, sym, refl, ap, ◌∙◌, subst, inl, inr}
+use Rattle.std.proofs.Common.{◌≡◌, ℕ, Bool, true, false, cond, ◌⊎◌, List, [], ◌∷◌, ◌++◌, sym, refl, ap, subst, inl, inr}
 use mathlib.Core.List.Memᴰ
 use mathlib.Core.List.{Memᴰ}
 use Rattle.std.proofs.lemmas.Bool.{cases_Bool}
-use Rattle.theory.specs.Systems.{Move, Step, Family, Machine, move, moves, machine, Goes}
+use Rattle.theory.specs.Systems.{Move, Step, Family, move, moves, machine, Goes}
 
 -- one step more: the machine has it if the step holds the variant
 pub moves_push : (v : ℕ) (xs : List Step) (x : Step) → moves v (xs ++ x ∷ []) ≡ moves v xs ++ cond (x.held v) (move x ∷ []) []

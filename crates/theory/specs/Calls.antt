@@ -1,5 +1,5 @@
 -- What each call on a comparison answers and leaves.
-use Rattle.std.specs.Prelude.{◌≡◌, ℕ, suc, ◌+◌, ◌<◌, ◌≤◌, Bool, true, false, cond, ◌⊎◌, List, [], ◌∷◌, ◌≢◌}
+use Rattle.std.specs.Prelude.{◌≡◌, ℕ, suc, ◌+◌, ◌<◌, ◌≤◌, Bool, true, false, cond, ◌⊎◌, [], ◌∷◌, ◌≢◌}
 use Rattle.theory.specs.Sets.{members}
 use Rattle.theory.specs.Systems.{Family}
 use Rattle.theory.specs.Tables.{Table}

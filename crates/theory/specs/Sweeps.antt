@@ -1,5 +1,5 @@
 -- Sweeps over a table by a rule, what they strike, and the rule of simulations as a test.
-use Rattle.std.specs.Prelude.{◌≡◌, ℕ, zero, suc, ◌+◌, Bool, true, false, cond, not, ◌&&◌, ◌||◌, List, [], ◌∷◌, ◌==◌, nat_lt}
+use Rattle.std.specs.Prelude.{ℕ, zero, suc, ◌+◌, Bool, true, false, cond, not, ◌&&◌, ◌||◌, List, [], ◌∷◌, ◌==◌, nat_lt}
 use Rattle.theory.specs.Sets.{Variants, gone}
 use Rattle.theory.specs.Counts.{sum_below}
 use Rattle.theory.specs.Systems.{Step, Family, agree}

@@ -1,15 +1,14 @@
 -- The candidates of the second line.
-use Rattle.std.proofs.Common.{◌≡◌, ℕ, ◌+◌, ◌<◌, true, false, ltb, ◌⊎◌, List, [], ◌∷◌, sym, refl, subst, inl, inr, arith}
+use Rattle.std.proofs.Common.{◌≡◌, ℕ, ◌+◌, ◌<◌, true, false, ltb, List, [], ◌∷◌, sym, refl, subst, inl, inr, arith}
 use Rattle.std.proofs.lemmas.Bool.{both_ways, or_cases, eqb-true}
-use Rattle.theory.specs.Systems.{Step}
 use Rattle.theory.specs.Tables.{Table}
 use Rattle.theory.specs.Answers.{granted}
-use Rattle.theory.specs.Marks.{here, left, right, facing, at_starts, at_step, Marked}
-use Rattle.theory.specs.Judgements.{AllFollowed, FirstUnfollowed, Clear}
+use Rattle.theory.specs.Marks.{here, left, right, facing, at_step, Marked}
+use Rattle.theory.specs.Judgements.{FirstUnfollowed, Clear}
 use Rattle.theory.proofs.Clearing.{clear_starts, clear_next, clear_row, clear_all, side_fault}
 use Rattle.worked.specs.Words.{set_of, step, Entry, holding, listed, MarksAs}
 use Rattle.worked.specs.Lines.{second_left, second_right, paired, unpaired, overpaired}
-use Rattle.worked.proofs.Testing.{all_below, below_out, bounded_by, bounds_out, between, soon_silent, is_followed, decided, all_are_followed, all_followed}
+use Rattle.worked.proofs.Testing.{all_below, below_out, bounded_by, bounds_out, soon_silent, is_followed, decided, all_are_followed, all_followed}
 
 -- a candidate of the second line: two by three pairs, two variants
 module _ (sets : List Entry) (bounded : bounded_by 2 3 2 sets ≡ true) where

@@ -1,5 +1,5 @@
 -- The lines that are swept: they compute.
-use Rattle.std.proofs.Common.{◌≡◌, ℕ, suc, ◌+◌, ◌<◌, false, List, [], ◌∷◌, refl, arith, lit<}
+use Rattle.std.proofs.Common.{◌≡◌, ℕ, ◌+◌, ◌<◌, false, List, [], ◌∷◌, refl, arith, lit<}
 use Rattle.theory.specs.Sets.{card, members}
 use Rattle.theory.specs.Counts.{sum_below}
 use Rattle.theory.specs.Systems.{Family, agree}

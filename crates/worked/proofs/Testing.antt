@@ -1,14 +1,14 @@
 -- Whether steps are followed, as a test that computes, for families in which no silent step comes after another.
-use Rattle.std.proofs.Common.{◌≡◌, ℕ, zero, suc, ◌<◌, Bool, true, false, not, ◌&&◌, ◌||◌, eqb, ltb, ◌⊎◌, List, [], ◌∷◌, Decides, sym, refl, ◌∙◌, subst, subst₂, inl, inr, arith}
+use Rattle.std.proofs.Common.{◌≡◌, ℕ, zero, suc, ◌<◌, Bool, true, false, not, ◌&&◌, ◌||◌, eqb, ltb, List, [], ◌∷◌, Decides, sym, refl, subst, subst₂, inl, inr, arith}
 use mathlib.Core.List.Memᴰ
 use mathlib.Core.List.{Memᴰ}
-use Rattle.std.proofs.lemmas.Bool.{and_parts, and_from, or_cases, or_left, or_right, eqb-true, eq-eqb, ltb-true, cases_eq, both_ways, not-true}
+use Rattle.std.proofs.lemmas.Bool.{and_parts, and_from, or_cases, or_left, eqb-true, eq-eqb, ltb-true, cases_eq, both_ways, not-true}
 use Rattle.theory.specs.Sets.{Variants}
 use Rattle.theory.specs.Systems.{Step, Family, machine, Goes, silence}
 use Rattle.theory.specs.Tables.{Table}
 use Rattle.theory.specs.Bisimulations.{Silently, stays, goes}
-use Rattle.theory.specs.Marks.{At, StepFollowed}
-use Rattle.theory.specs.Judgements.{ReachRow, by_way_of, some_below, Due, AllFollowed}
+use Rattle.theory.specs.Marks.{StepFollowed}
+use Rattle.theory.specs.Judgements.{ReachRow, by_way_of, some_below, AllFollowed}
 use Rattle.theory.proofs.Systems.{step_goes, goes_step}
 use Rattle.theory.proofs.Marking.{mem_of_at}
 use Rattle.theory.proofs.Judgements.{BetweenStates, followed_tested}

@@ -1,5 +1,5 @@
 -- Families, candidates and histories that are written out.
-use Rattle.std.specs.Prelude.{◌≡◌, ℕ, zero, suc, Bool, false, ◌&&◌, ◌||◌, List, [], ◌∷◌, ◌++◌, map, reverse, ◌==◌}
+use Rattle.std.specs.Prelude.{◌≡◌, ℕ, zero, suc, false, ◌&&◌, ◌||◌, List, [], ◌∷◌, ◌++◌, map, reverse, ◌==◌}
 use Rattle.theory.specs.Sets.{Variants, members}
 use Rattle.theory.specs.Systems.{Step, Family}
 use Rattle.theory.specs.Tables.{Table}

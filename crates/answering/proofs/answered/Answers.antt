@@ -1,4 +1,4 @@
-use Rattle.std.proofs.Common.{◌≡◌, ℕ, ◌+◌, ◌<◌, Bool, ◌||◌, List, map, length, get_or, take, sym, ap, ◌∙◌, subst, le_refl, arith, take_all}
+use Rattle.std.proofs.Common.{◌≡◌, ℕ, ◌+◌, ◌<◌, Bool, ◌||◌, List, map, length, get_or, take, sym, ap, ◌∙◌, le_refl, take_all}
 use Rattle.theory.specs.Systems as theory
 use Rattle.theory.specs.Tables.{Table}
 use Rattle.theory.specs.Sweeps.{answers, answered}

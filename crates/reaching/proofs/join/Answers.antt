@@ -1,4 +1,4 @@
-use Rattle.std.proofs.Common.{Bool, ◌&&◌, ◌||◌, sym, ap, ◌∙◌, ap₂}
+use Rattle.std.proofs.Common.{Bool, ◌&&◌, ◌||◌, ap, ◌∙◌, ap₂}
 use Rattle.families.specs.Models.{step_of}
 use Rattle.tables.specs.Tables.{standing}
 use Rattle.tables.proofs.Tables.{has_pair}

@@ -1,6 +1,5 @@
-use Rattle.std.proofs.Common.{◌≡◌, ℕ, ◌+◌, true, sym, ap, ◌∙◌, subst, add-one, arith}
+use Rattle.std.proofs.Common.{◌≡◌, ℕ, sym, ap, ◌∙◌, subst, add-one, arith}
 use Rattle.std.proofs.lemmas.Bool.{eq-eqb, cond-true}
-use Rattle.theory.specs.Tables.{Table}
 use Rattle.theory.specs.Reach.{joined, passed}
 use Rattle.theory.proofs.Reach.{Less, joined_more, passed_more, still_both}
 use Rattle.families.specs.Models.{step_of}

@@ -1,4 +1,4 @@
-use Rattle.std.proofs.Common.{◌≡◌, ℕ, ◌*◌, ◌&&◌, eqb, ltb, length, sym, ap, ◌∙◌, subst, ap₂, arith}
+use Rattle.std.proofs.Common.{◌≡◌, ℕ, ◌*◌, ◌&&◌, eqb, ltb, length, ap, ◌∙◌, ap₂, arith}
 use Rattle.families.specs.Drafts.{model}
 use Rattle.tables.specs.Cells.{bounded}
 use Rattle.tables.specs.Tables.{Fits}

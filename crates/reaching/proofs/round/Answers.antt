@@ -1,8 +1,8 @@
 use Rattle.std.proofs.Common.{◌≡◌, ℕ, ◌+◌, ◌<◌, eqb, List, map, length, get_or, take, sym, refl, ap, ◌∙◌, subst, le_refl, arith, take_all}
-use Rattle.std.proofs.lemmas.Bool.{cond-true, cond-false, eq-eqb, ne_eqb}
+use Rattle.std.proofs.lemmas.Bool.{cond-false, ne_eqb}
 use Rattle.theory.specs.Systems as theory
 use Rattle.theory.specs.Tables.{Table}
-use Rattle.theory.specs.Reach.{passed, stepped, round}
+use Rattle.theory.specs.Reach.{stepped, round}
 use Rattle.theory.proofs.Reach.{Less, stepped_more, round_more, round_push, still_both}
 use Rattle.variants.specs.declared.VariantSet.{Ghosts as Kind}
 use Rattle.families.specs.declared.parts.Step.{Step}

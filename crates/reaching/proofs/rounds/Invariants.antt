@@ -1,4 +1,3 @@
-use Rattle.std.proofs.Common.{◌≡◌, ◌≤◌}
 use Rattle.theory.proofs.Reach.{Going, Counted, missing}
 use Rattle.variants.specs.Kinds.{Countable}
 use Rattle.families.specs.Drafts.{model}

@@ -1,4 +1,4 @@
-use Rattle.std.proofs.Common.{◌≡◌, ℕ, ◌*◌, false, length, drop, sym, refl, ap, ◌∙◌, subst, ap₂, arith}
+use Rattle.std.proofs.Common.{◌≡◌, ℕ, ◌*◌, false, length, drop, sym, ap, ◌∙◌, subst, ap₂, arith}
 use Rattle.theory.specs.Tables.{Table}
 use Rattle.theory.specs.Sweeps.{begun}
 use Rattle.theory.specs.Calls.{unswept}

@@ -1,8 +1,6 @@
-use Rattle.std.proofs.Common.{◌≡◌, ℕ, ◌+◌, ◌<◌, length, set, sym, ◌∙◌, subst, arith}
+use Rattle.std.proofs.Common.{◌≡◌, ℕ, ◌+◌, ◌<◌, length, set, sym, subst, arith}
 use Rattle.std.proofs.lemmas.List.{get_or_read}
-use Rattle.histories.specs.declared.Request.{Request}
 use Rattle.histories.specs.declared.Turn.{Turn}
-use Rattle.histories.specs.declared.Played.{Played}
 use Rattle.histories.specs.Plays.{TakesOne, Plays}
 use Rattle.histories.proofs.Turns.{SoFar, none_yet, all_done, stopped, one_more}
 use Rattle.histories.proofs.playing.play.Goals as goal

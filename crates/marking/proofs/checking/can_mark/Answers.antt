@@ -1,4 +1,4 @@
-use Rattle.std.proofs.Common.{◌≡◌, ℕ, ◌+◌, ◌*◌, List, take, Decides, sym, ap, ◌∙◌, subst, ap₂, arith}
+use Rattle.std.proofs.Common.{◌≡◌, ℕ, ◌+◌, ◌*◌, take, Decides, subst, ap₂, arith}
 use Rattle.std.proofs.lemmas.Bool.{both_ways}
 use Rattle.marking.specs.Marks.{OnlyListed, pairs, kind_too_large, table_too_short, scratch_too_short, unlisted}
 use Rattle.marking.proofs.checking.can_mark.Goals as goal

@@ -1,4 +1,3 @@
-use Rattle.std.proofs.Common.{subst}
 use Rattle.marking.proofs.Scratch.{scratch_reached}
 use Rattle.marking.proofs.checking.reach_both.Goals as goal
 

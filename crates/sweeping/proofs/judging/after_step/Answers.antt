@@ -1,6 +1,5 @@
-use Rattle.std.proofs.Common.{◌≡◌, Bool, not, ◌&&◌, ◌||◌, eqb, sym, ap, ◌∙◌, arith}
+use Rattle.std.proofs.Common.{Bool, not, ◌&&◌, ◌||◌, eqb, ap, ◌∙◌, arith}
 use Rattle.std.proofs.lemmas.Bool.{eq-eqb, ne_eqb}
-use Rattle.theory.specs.Sweeps.{answered}
 use Rattle.theory.proofs.Cards.{gone_nothing}
 use Rattle.theory.proofs.Rules.{answered_row}
 use Rattle.families.specs.Models.{step_of}

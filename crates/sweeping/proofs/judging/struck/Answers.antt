@@ -1,5 +1,5 @@
 use Rattle.std.proofs.Common.{◌≡◌, ◌≤◌, Bool, not, ◌&&◌, sym, ap, ◌∙◌, arith}
-use Rattle.theory.specs.Sets.{card, gone}
+use Rattle.theory.specs.Sets.{gone}
 use Rattle.theory.proofs.Cards.{card_same, card_le}
 use Rattle.sweeping.proofs.Steps.{spared, removed_by, count_exact}
 use Rattle.sweeping.proofs.judging.struck.Goals as goal

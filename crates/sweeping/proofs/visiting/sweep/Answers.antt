@@ -1,4 +1,4 @@
-use Rattle.std.proofs.Common.{◌≡◌, ◌+◌, sym, ap, ◌∙◌, arith}
+use Rattle.std.proofs.Common.{◌≡◌, sym, ap, ◌∙◌, arith}
 use Rattle.theory.specs.Sweeps.{rows_visited, row_visited, row_struck, rows_struck, removed}
 use Rattle.theory.proofs.Sweeps.{rows_more, rows_struck_more, rows_struck_all}
 use Rattle.tables.specs.Tables.{standing}

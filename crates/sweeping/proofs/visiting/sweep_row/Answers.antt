@@ -1,4 +1,4 @@
-use Rattle.std.proofs.Common.{◌≡◌, ℕ, ◌+◌, ◌*◌, ◌≤◌, ap, ◌∙◌, mul-le-mul, arith}
+use Rattle.std.proofs.Common.{◌≡◌, ◌+◌, ◌*◌, ◌≤◌, ap, ◌∙◌, mul-le-mul, arith}
 use Rattle.theory.specs.Sweeps.{row_visited, row_struck}
 use Rattle.theory.proofs.Sweeps.{row_more, row_struck_more, row_struck_few}
 use Rattle.tables.specs.Tables.{standing}

@@ -1,4 +1,4 @@
-use Rattle.std.proofs.Common.{ℕ, sym, refl, ap, ◌∙◌}
+use Rattle.std.proofs.Common.{sym, refl, ap, ◌∙◌}
 use Rattle.theory.proofs.Cards.{gone_same}
 use Rattle.tables.specs.Tables.{standing}
 use Rattle.sweeping.specs.Visits.{rule_of}
