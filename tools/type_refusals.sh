@@ -3,10 +3,10 @@
 # A must-fail edit has to reach the prover, and these do not: the compiler turns them away before.
 set -eu
 cd "$(dirname "$0")/.."
-rt check evenline > /dev/null || { echo "evenline itself is not proved"; exit 1; }
+(cd crates/evenline && rt check) > /dev/null || { echo "evenline itself is not proved"; exit 1; }
 copy=$(mktemp -d)
 trap 'rm -rf "$copy"' EXIT
-cp -r crates crates.txt target "$copy"
+tar -c --exclude=out crates crates.txt | tar -x -C "$copy"
 program=crates/evenline/src/main.rt
 failed=0
 
@@ -16,7 +16,7 @@ refused() {
     if cmp -s "$program" "$copy/$program"; then
         echo "$1: nothing was changed"
         failed=1
-    elif (cd "$copy" && rt check evenline) > "$copy/log" 2>&1; then
+    elif (cd "$copy/crates/evenline" && rt check) > "$copy/log" 2>&1; then
         echo "$1: NOT refused"
         failed=1
     elif grep -qF "$4" "$copy/log"; then

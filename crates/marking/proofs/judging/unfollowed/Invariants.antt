@@ -1,5 +1,5 @@
 use Rattle.std.proofs.Common.{◌<◌, length}
-use Rattle.theory.specs.Judgements.{ReachRow}
+use Rattle.theory.specs.Judgements.{ReachRow, FollowedBelow}
 use Rattle.variants.specs.Kinds.{Countable}
 use Rattle.families.specs.Models.{held_steps}
 use Rattle.families.specs.Drafts.{model}
@@ -7,7 +7,6 @@ use Rattle.families.proofs.Chains.{rest_of}
 use Rattle.families.proofs.Walks.{Walked}
 use Rattle.tables.specs.Cells.{cell}
 use Rattle.following.specs.Views.{seen}
-use Rattle.marking.proofs.Steps.{ClearBelow}
 use Rattle.marking.proofs.judging.unfollowed.Given as goal
 
 -- every step before the place is followed
@@ -18,7 +17,7 @@ invariant-loop-next g l =
     Walked xs (λ x. x.from) l.own
     (λ k.
     Countable K → l.other < (model K l.follower).states → ReachRow K.variants (model K l.follower) l.other (cell K l.row) →
-    ClearBelow K (model K l.follower) (seen K l.view) l.own l.other xs k)
+    FollowedBelow (model K l.follower) (seen K l.view) l.own l.other (model K l.mover).steps k)
     l.next
 
 abbrev pub decreases-loop-next : goal.decreases-loop-next
