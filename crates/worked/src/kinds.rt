@@ -1,5 +1,5 @@
 // What the numbers of each kind are, said of the fields themselves.
-ghost use Rattle.std.specs.Prelude.{◌≡◌, ◌-◌, ◌/◌, ◌%◌, ◌^◌, ◌&&◌, ltb, if◌then◌else◌, ◌==◌, nat_lt};
+ghost use Rattle.std.specs.Prelude.{◌≡◌, ◌-◌, ◌/◌, ◌%◌, ◌^◌, ◌&&◌, if◌then◌else◌, ◌==◌, nat_lt};
 
 use masks::Mask;
 use pairs::Pair;
@@ -28,7 +28,7 @@ pub fn mask_has(mask: Mask, v: u32) -> bool
 
 // Of a Pair of Single and Mask, number 0 is the Single's 0, and number v from 1 to 64 the Mask's v - 1.
 pub fn pair_has(first: Single, second: Mask, v: u32) -> bool
-    ensures { result ≡ (if ltb v 1 then first.held else nat_lt v 65 && second.bits / 2 ^ (v - 1) % 2 == 1) }
+    ensures { result ≡ (if nat_lt v 1 then first.held else nat_lt v 65 && second.bits / 2 ^ (v - 1) % 2 == 1) }
 {
     Pair { first, second }.has(v)
 }
