@@ -1,78 +1,106 @@
--- A loop along a chain of steps: those that it passes over change nothing, so that it comes to what all steps give.
-use Rattle.std.proofs.Common.{◌≡◌, ℕ, zero, suc, ◌+◌, ◌<◌, ◌≤◌, List, [], ◌∷◌, map, length, get_or, Some, None, Option, sym, refl, ap, ◌∙◌, subst, inl, inr, arith}
-use Rattle.std.proofs.lemmas.List.{get_or-map, length-map}
+-- The steps that are sought, from one to the next.
+use Rattle.std.proofs.Common.{◌≡◌, ℕ, zero, suc, ◌+◌, ◌-◌, ◌<◌, ◌≤◌, Bool, true, false, cond, eqb, List, [], ◌∷◌, map, length, get_or, drop, Some, None, Option, sym, refl, ap, ◌∙◌, subst, inl, inr, arith}
+use Rattle.std.proofs.lemmas.List.{get_or-map, length-map, drop_more, drop_all}
+use Rattle.std.proofs.lemmas.Bool.{cases_eq, cond-true, cond-false, eq-eqb, ne_eqb}
 use Rattle.families.specs.declared.parts.Step.{Step}
+use Rattle.families.specs.declared.seeking.Sought.{Sought}
+use Rattle.families.specs.declared.seeking.Sought.TheVariants.{Leaving, Silent}
 use Rattle.families.specs.Places.{first_from, place_below}
-use Rattle.families.proofs.Chains.{comes_to, comes_to_end, place_cases, rest_of}
+use Rattle.families.specs.Seeking.{is_sought, sought_from, numbered, numbered_from}
+use Rattle.families.proofs.Chains.{seek_end, seek_here, seek_later, seek_among}
 
 read_at : {S : Type 0} (xs : List (Step S)) (j : ℕ) → j < length xs → (x : Step S) × (x ≡ get_or xs j x)
 read_at [] j l = absurd (omega arith)
 read_at (x ∷ xs) zero l = (x, refl)
 read_at (x ∷ xs) (suc j) l = read_at xs j (omega arith)
 
--- steps with a key each, of which those with one key are walked
-module _ {S : Type 0} (xs : List (Step S)) (key_of : Step S → ℕ) (key : ℕ) where
-  -- the first place from k on that has the key
-  abbrev pub next_from : ℕ → Option ℕ
-  next_from k = place_below (length xs) (first_from (map key_of xs) key k)
+-- a place that is one of the steps', and whose step is sought
+pub record Comes {S : Type 0} (q : Sought) (xs : List (Step S)) (p : ℕ) : Type 0 where
+  pub below : p < length xs
+  pub is : (x : Step S) → x ≡ get_or xs p x → is_sought q x ≡ true
 
-  -- P holds of the steps before some place k, and the next place is the first from k on
-  abbrev pub Walked : (P : ℕ → Type 0) → Option ℕ → Type 0
-  Walked P next = (k : ℕ) × (k ≤ length xs) × (next ≡ next_from k) × P k
+module _ {S : Type 0} (q : Sought) (xs : List (Step S)) where
+  module _ (k : ℕ) (x : Step S) (l : k < length xs) (read : x ≡ get_or xs k x) where
+    front : numbered q (drop k xs) k ≡ numbered q (x ∷ drop (k + 1) xs) k
+    front = ap (λ (ys : List (Step S)). numbered q ys k) (drop_more xs k x l ∙ ap (λ (y : Step S). y ∷ drop (k + 1) xs) (sym read))
 
-  -- a place that has the key; P holds of the steps before it
-  pub record Here (P : ℕ → Type 0) (p : ℕ) : Type 0 where
-    pub below : p < length xs
-    pub key_is : get_or (map key_of xs) p 0 ≡ key
-    pub has : (x : Step S) → x ≡ get_or xs p x → key_of x ≡ key
-    pub there : P p
+    pub numbered_here : is_sought q x ≡ true → numbered q (drop k xs) k ≡ (k, x) ∷ numbered q (drop (k + 1) xs) (k + 1)
+    unfolding numbered
+    numbered_here e = front ∙ cond-true (is_sought q x) ((k, x) ∷ numbered q (drop (k + 1) xs) (k + 1)) (numbered q (drop (k + 1) xs) (k + 1)) e
+
+    numbered_later : is_sought q x ≡ false → numbered q (drop k xs) k ≡ numbered q (drop (k + 1) xs) (k + 1)
+    unfolding numbered
+    numbered_later e = front ∙ cond-false (is_sought q x) ((k, x) ∷ numbered q (drop (k + 1) xs) (k + 1)) (numbered q (drop (k + 1) xs) (k + 1)) e
+
+  numbered_end : (k : ℕ) → length xs ≤ k → numbered q (drop k xs) k ≡ []
+  unfolding numbered
+  numbered_end k l = ap (λ (ys : List (Step S)). numbered q ys k) (drop_all k xs l)
+
+module _ {S : Type 0} (q : Sought) (key_of : Step S → ℕ) (key : ℕ) (tests : (x : Step S) → is_sought q x ≡ eqb (key_of x) key) (xs : List (Step S)) where
+  -- the first place from k on
+  abbrev next : ℕ → Option ℕ
+  next k = place_below (length xs) (first_from (map key_of xs) key k)
 
   long : length (map key_of xs) ≡ length xs
   long = length-map xs key_of
 
-  key_at : (j : ℕ) (x : Step S) → j < length xs → x ≡ get_or xs j x → get_or (map key_of xs) j 0 ≡ key_of x
-  key_at j x l read = get_or-map key_of xs j x 0 l ∙ ap key_of (sym read)
+  next_end : next (length xs) ≡ None
+  next_end = subst (λ (n : ℕ). place_below n (first_from (map key_of xs) key n) ≡ None) long (seek_end (map key_of xs) key)
 
-  pub walk_none : (P : ℕ → Type 0) (next : Option ℕ) → next ≡ next_from 0 → P 0 → Walked P next
-  walk_none P next e h = (0, omega arith, e, h)
+  module _ (k : ℕ) (x : Step S) (l : k < length xs) (read : x ≡ get_or xs k x) where
+    key_at : get_or (map key_of xs) k 0 ≡ key_of x
+    key_at = get_or-map key_of xs k x 0 l ∙ ap key_of (sym read)
 
-  -- a place is one of the steps'
-  pub walk_below : (P : ℕ → Type 0) (next : Option ℕ) → Walked P next → (p : ℕ) → next ≡ Some p → p < length xs
-  walk_below P next walked p e = elim (place_cases (length xs) (first_from (map key_of xs) key walked.0) next walked.2) [
-    | inl m ↦ let same : p ≡ first_from (map key_of xs) key walked.0 = cc (e, m.1) in omega (arith, m.0)
-    | inr m ↦ let z : ◌≡◌ {A = ℕ} 0 1 = cc (e, m.1) in absurd (omega arith)
-  ]
+    next_here : key_of x ≡ key → next k ≡ Some k
+    next_here e = seek_among xs (map key_of xs) key k long ∙ seek_here (map key_of xs) key k (omega (arith, long)) (key_at ∙ e)
 
-  -- from a place that has the key to the next one
-  module _ (p : ℕ) (l : p < length xs) (next : Option ℕ) (is : next ≡ next_from (p + 1)) where
-    pub walk_more : (P : ℕ → Type 0) → P (p + 1) → Walked P next
-    walk_more P h = (p + 1, omega arith, is, h)
+    next_later : (key_of x ≡ key → ⊥) → next k ≡ next (k + 1)
+    next_later ne =
+        seek_among xs (map key_of xs) key k long
+        ∙ seek_later (map key_of xs) key k (omega (arith, long)) (λ e. ne (sym key_at ∙ e))
+        ∙ sym (seek_among xs (map key_of xs) key (k + 1) long)
 
-    pub walk_falls : (q : Option ℕ) → q ≡ Some p → rest_of (length xs) next < rest_of (length xs) q
-    walk_falls q e = subst (λ (o : Option ℕ). rest_of (length xs) next < rest_of (length xs) o) (sym e) falls
-      where
-        falls : rest_of (length xs) next < rest_of (length xs) (Some p)
-        falls = elim (place_cases (length xs) (first_from (map key_of xs) key (p + 1)) next is) [
-          | inl m ↦ subst (λ (o : Option ℕ). rest_of (length xs) o < rest_of (length xs) (Some p)) (sym m.1) (omega (arith, m.0))
-          | inr m ↦ subst (λ (o : Option ℕ). rest_of (length xs) o < rest_of (length xs) (Some p)) (sym m.1) (omega arith)
-        ]
+  along_keys : (n k : ℕ) → k + n ≡ length xs → numbered q (drop k xs) k ≡ numbered_from q xs (next k)
+  along_keys zero k e =
+      let end : k ≡ length xs = omega arith in
+      numbered_end q xs k (omega arith) ∙ ap (numbered_from q xs) (sym (ap next end ∙ next_end))
+  along_keys (suc n) k e =
+      let l : k < length xs = omega arith in
+      let x = read_at xs k l in
+      elim (cases_eq (key_of x.0) key) [
+        | inl same ↦ ap (numbered_from q xs) (sym (next_here k x.0 l x.1 same))
+        | inr other ↦
+            numbered_later q xs k x.0 l x.1 (tests x.0 ∙ ne_eqb _ _ other)
+            ∙ along_keys n (k + 1) (omega arith)
+            ∙ ap (numbered_from q xs) (sym (next_later k x.0 l x.1 other))
+      ]
 
-  -- steps without the key change nothing
-  module _ (P : ℕ → Type 0) (pass : (j : ℕ) (x : Step S) → j < length xs → x ≡ get_or xs j x → (key_of x ≡ key → ⊥) → P j → P (j + 1)) (next : Option ℕ) (walked : Walked P next) where
-    passes : (j : ℕ) → j < length (map key_of xs) → (get_or (map key_of xs) j 0 ≡ key → ⊥) → P j → P (j + 1)
-    passes j l ne h =
-        let m : j < length xs = omega (arith, long) in
-        let x = read_at xs j m in
-        pass j x.0 m x.1 (λ e. ne (key_at j x.0 m x.1 ∙ e)) h
+  come : (n k p : ℕ) → k + n ≡ length xs → next k ≡ Some p → Comes q xs p
+  come zero k p e is = let z : ◌≡◌ {A = Option ℕ} None (Some p) = sym (ap next (omega arith) ∙ next_end) ∙ is in absurd (cc z)
+  come (suc n) k p e is =
+      let l : k < length xs = omega arith in
+      let x = read_at xs k l in
+      elim (cases_eq (key_of x.0) key) [
+        | inl same ↦ subst (Comes q xs) (found k (next_here k x.0 l x.1 same) is) (record { below = l; is = λ y read. tests y ∙ eq-eqb _ _ (sym (key_at k y l read) ∙ key_at k x.0 l x.1 ∙ same) })
+        | inr other ↦ come n (k + 1) p (omega arith) (sym (next_later k x.0 l x.1 other) ∙ is)
+      ]
+    where
+      found : (j : ℕ) → next j ≡ Some j → next j ≡ Some p → j ≡ p
+      found j a b = cc (a, b)
 
-    is : next ≡ place_below (length (map key_of xs)) (first_from (map key_of xs) key walked.0)
-    is = subst (λ (n : ℕ). next ≡ place_below n (first_from (map key_of xs) key walked.0)) (sym long) walked.2
+module _ {S : Type 0} (q : Sought) (xs : List (Step S)) where
+  -- the steps from place k on that are sought are those from the first place on
+  pub numbered_sought : (k : ℕ) → k ≤ length xs → numbered q (drop k xs) k ≡ numbered_from q xs (sought_from q xs k)
+  numbered_sought k l = by q
+    where
+      by : (r : Sought) → numbered r (drop k xs) k ≡ numbered_from r xs (sought_from r xs k)
+      by (Leaving s) = along_keys (Leaving s) (λ x. x.from) s (λ x. refl) xs (length xs - k) k (omega arith)
+      by Silent = along_keys Silent (λ x. x.action) 0 (λ x. refl) xs (length xs - k) k (omega arith)
 
-    pub walk_here : (p : ℕ) → next ≡ Some p → Here P p
-    walk_here p e =
-        let come = comes_to (map key_of xs) key P passes walked.0 (omega (arith, long, walked.1)) walked.3 next is p e in
-        let l : p < length xs = omega (arith, long, come.below) in
-        record { below = l; key_is = come.has; has = λ x read. sym (key_at p x l read) ∙ come.has; there = come.there }
-
-    pub walk_all : next ≡ None → P (length xs)
-    walk_all e = subst P long (comes_to_end (map key_of xs) key P passes walked.0 (omega (arith, long, walked.1)) walked.3 next is e)
+  -- the first place from k on is one of theirs
+  pub comes : (k p : ℕ) → k ≤ length xs → sought_from q xs k ≡ Some p → Comes q xs p
+  comes k p l = by q
+    where
+      by : (r : Sought) → sought_from r xs k ≡ Some p → Comes r xs p
+      by (Leaving s) = come (Leaving s) (λ x. x.from) s (λ x. refl) xs (length xs - k) k p (omega arith)
+      by Silent = come Silent (λ x. x.action) 0 (λ x. refl) xs (length xs - k) k p (omega arith)

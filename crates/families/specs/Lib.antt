@@ -1,4 +1,5 @@
 pub mod Parts
 pub mod Places
 pub mod Models
+pub mod Seeking
 pub mod Drafts

@@ -1,6 +1,7 @@
 -- Places in a list of keys: for each key the places that have it, ascending, each found from the one before.
-use Rattle.std.specs.Prelude.{◌≡◌, ℕ, suc, ◌+◌, ◌<◌, ◌≤◌, cond, List, [], ◌∷◌, map, length, drop, Some, None, Option, ◌==◌, nat_lt, slice_index, slice_set}
+use Rattle.std.specs.Prelude.{◌≡◌, ℕ, suc, ◌+◌, ◌<◌, ◌≤◌, cond, List, [], ◌∷◌, map, length, drop, Some, None, Option, ◌==◌, nat_lt, slice_index, slice_index_or, slice_set}
 use Rattle.families.specs.declared.parts.Step.{Step}
+use Rattle.families.specs.declared.parts.Link.{Link}
 use Rattle.families.specs.declared.parts.Index.{Index}
 
 -- the states that steps leave
@@ -33,23 +34,27 @@ module _ {S : Type 0} (xs : List (Step S)) where
   abbrev pub silent_from : ℕ → Option ℕ
   silent_from k = place_below (length xs) (first_from (actions xs) 0 k)
 
+-- what follows the place j; nothing past the end
+abbrev pub link_at : List Link → ℕ → Link
+link_at links j = slice_index_or links j (record { leaving = None; silent = None })
+
 -- the index of the steps from place k on
 module _ {S : Type 0} (xs : List (Step S)) (k : ℕ) (index : Index) where
   -- for each state the first place whose step leaves it
   abbrev pub FirstLeaving : Type 0
-  FirstLeaving = (s : ℕ) → s < 64 → slice_index index.first s ≡ first_from (sources xs) s k
+  FirstLeaving = (s : ℕ) → s < 64 → slice_index_or index.first s None ≡ leaving_from xs s k
 
   -- for each place the next one whose step leaves the same state
   abbrev pub NextLeaving : Type 0
-  NextLeaving = (j : ℕ) → k ≤ j → j < length xs → slice_index index.next j ≡ first_from (sources xs) (slice_index (sources xs) j) (j + 1)
+  NextLeaving = (j : ℕ) → k ≤ j → j < length xs → (link_at index.links j).leaving ≡ leaving_from xs (slice_index (sources xs) j) (j + 1)
 
   -- the first silent place
   abbrev pub FirstSilent : Type 0
-  FirstSilent = index.silent ≡ first_from (actions xs) 0 k
+  FirstSilent = index.silent ≡ silent_from xs k
 
   -- for each place the next silent one
   abbrev pub NextSilent : Type 0
-  NextSilent = (j : ℕ) → k ≤ j → j < length xs → slice_index index.next_silent j ≡ first_from (actions xs) 0 (j + 1)
+  NextSilent = (j : ℕ) → k ≤ j → j < length xs → (link_at index.links j).silent ≡ silent_from xs (j + 1)
 
   pub record Indexes : Type 0 where
     pub first_leaving : FirstLeaving
@@ -59,7 +64,6 @@ module _ {S : Type 0} (xs : List (Step S)) (k : ℕ) (index : Index) where
 
 -- the step at place k, which leaves s by action a, was put before all others
 pub record Added (index : Index) (k s a : ℕ) (index' : Index) : Type 0 where
-  pub first : index'.first ≡ slice_set index.first s k
-  pub next : index'.next ≡ slice_set index.next k (slice_index index.first s)
-  pub silent : index'.silent ≡ cond (a == 0) k index.silent
-  pub next_silent : index'.next_silent ≡ slice_set index.next_silent k index.silent
+  pub first : index'.first ≡ slice_set index.first s (Some k)
+  pub links : index'.links ≡ slice_set index.links k (record { leaving = slice_index_or index.first s None; silent = index.silent })
+  pub silent : index'.silent ≡ cond (a == 0) (Some k) index.silent

@@ -5,7 +5,7 @@ ghost use Rattle.families.specs.Parts.{Room, FewStates, LeaveStates};
 ghost use Rattle.families.specs.Models.{held_steps};
 ghost use Rattle.families.specs.Places.{Indexes, Added};
 
-use crate::parts::{Index, Parts, Step};
+use crate::parts::{Index, Link, Parts, Step};
 
 impl Index {
     // Puts the step at a place before all others.
@@ -14,11 +14,13 @@ impl Index {
         requires from { from < 64 }
         ensures { Added self.old place from action self.new }
     {
-        self.next[place as usize] = self.first[from as usize];
-        self.first[from as usize] = place;
-        self.next_silent[place as usize] = self.silent;
+        self.links[usize::from(place)] = Link {
+            leaving: self.first[usize::from(from)],
+            silent: self.silent,
+        };
+        self.first[usize::from(from)] = Some(place);
         if action == 0 {
-            self.silent = place;
+            self.silent = Some(place);
         }
     }
 
@@ -28,12 +30,13 @@ impl Index {
         requires leaves { AllWithin (λ x. x.from < 64) steps.now 0 (length steps.now) }
         ensures { Indexes steps.now 0 result }
     {
-        let none = steps.len() as u16;
         let mut index = Index {
-            first: [none; 64],
-            next: [none; 1024],
-            silent: none,
-            next_silent: [none; 1024],
+            first: [None; 64],
+            silent: None,
+            links: [Link {
+                leaving: None,
+                silent: None,
+            }; 1024],
         };
         for place in (0..steps.len()).rev() {
             let step = steps[place];

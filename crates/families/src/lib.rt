@@ -9,10 +9,12 @@ mod drafting;
 mod indexing;
 mod parts;
 mod reading;
+mod seeking;
 
 pub use drafting::can_open;
 pub use parts::Step;
 use parts::{Index, Parts};
+pub use seeking::{Sought, Steps};
 
 // A family that still takes labels and steps.
 #[derive(Drop)]

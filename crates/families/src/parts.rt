@@ -4,7 +4,7 @@ ghost use Rattle.families.specs.Parts.{capacity, Pushed};
 
 // A step from one state by an action to another, there in the variants that `set` holds.
 // Action 0 is silent.
-#[derive(Clone, Copy)]
+#[derive(Clone, Copy, Debug, Default, PartialEq, Eq)]
 pub struct Step<S> {
     pub from: u8,
     pub action: u8,
@@ -12,17 +12,22 @@ pub struct Step<S> {
     pub set: S,
 }
 
-// Chains of places of steps, each in list order; the number of steps stands for no place.
+// The places that follow a step in the list: the next one whose step leaves the same state, and the next silent one.
+#[derive(Clone, Copy, Debug, PartialEq, Eq)]
+pub struct Link {
+    pub(crate) leaving: Option<u16>,
+    pub(crate) silent: Option<u16>,
+}
+
+// The places of steps, for each state those that leave it, and the silent ones, each chain in list order.
 #[derive(Clone, Copy)]
 pub struct Index {
     // For each state, the first place whose step leaves it.
-    pub(crate) first: [u16; 64],
-    // For each place, the next one whose step leaves the same state.
-    pub(crate) next: [u16; 1024],
+    pub(crate) first: [Option<u16>; 64],
     // The first silent place.
-    pub(crate) silent: u16,
-    // For each place, the next silent one.
-    pub(crate) next_silent: [u16; 1024],
+    pub(crate) silent: Option<u16>,
+    // For each place, the next ones.
+    pub(crate) links: [Link; 1024],
 }
 
 // The states, the start, a label for each state, and in lent memory the steps, of which the first `held` count.

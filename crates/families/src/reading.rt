@@ -1,9 +1,11 @@
 // What is read of a closed family.
-ghost use Rattle.std.specs.Prelude.{◌≡◌, ◌+◌, ◌<◌, ◌≤◌, length, slice_index};
+ghost use Rattle.std.specs.Prelude.{◌≡◌, ◌<◌, ◌≤◌};
 ghost use Rattle.families.specs.Models.{held_steps};
-ghost use Rattle.families.specs.Places.{sources, place_below, leaving_from, silent_from};
+ghost use Rattle.families.specs.Seeking.{sought_from, numbered};
+ghost use Rattle.families.specs.declared.seeking.Sought.TheVariants.{Leaving, Silent};
 ghost use Rattle.families.specs.Drafts.{model, label_at};
 
+use crate::seeking::{Sought, Steps};
 use crate::{Family, Step};
 use variants::VariantSet;
 
@@ -43,52 +45,35 @@ impl<'a, S: VariantSet> Family<'a, S> {
         &steps[..self.parts.held]
     }
 
-    // The place, if there is a step.
-    fn held_place(&self, place: u16) -> Option<usize>
-        ensures { result ≡ place_below (length (held_steps self.now.parts)) place }
+    // The steps that are sought, from the first place of one on.
+    fn steps_sought(&self, sought: Sought, first: Option<u16>) -> Steps<S>
+        requires { first ≡ sought_from sought (held_steps self.now.parts) 0 }
+        ensures { result ≡ numbered sought (held_steps self.now.parts) 0 }
     {
-        let place = place as usize;
-        if place < self.parts.held {
-            Some(place)
+        Steps {
+            sought,
+            steps: self.steps(),
+            links: &self.index.links,
+            next: first,
+        }
+    }
+
+    // The steps that leave a state, each with its place.
+    pub fn steps_from(&self, state: u8) -> Steps<S>
+        ensures { result ≡ numbered (Leaving state) (held_steps self.now.parts) 0 }
+    {
+        let first = if state < self.parts.states {
+            self.index.first[usize::from(state)]
         } else {
             None
-        }
+        };
+        self.steps_sought(Sought::Leaving(state), first)
     }
 
-    // The first place whose step leaves the state.
-    pub fn first_from(&self, state: u8) -> Option<usize>
-        ensures { result ≡ leaving_from (held_steps self.now.parts) state 0 }
+    // The silent steps, each with its place.
+    pub fn silent_steps(&self) -> Steps<S>
+        ensures { result ≡ numbered Silent (held_steps self.now.parts) 0 }
     {
-        if state >= 64 {
-            return None;
-        }
-        self.held_place(self.index.first[state as usize])
-    }
-
-    // The next place whose step leaves the same state as the one at `place`.
-    pub fn next_from(&self, place: usize) -> Option<usize>
-        ensures { result ≡ leaving_from (held_steps self.now.parts) (slice_index (sources (held_steps self.now.parts)) place) (place + 1) }
-    {
-        if place >= self.parts.held {
-            return None;
-        }
-        self.held_place(self.index.next[place])
-    }
-
-    // The first silent place.
-    pub fn first_silent(&self) -> Option<usize>
-        ensures { result ≡ silent_from (held_steps self.now.parts) 0 }
-    {
-        self.held_place(self.index.silent)
-    }
-
-    // The next silent place after `place`.
-    pub fn next_silent(&self, place: usize) -> Option<usize>
-        ensures { result ≡ silent_from (held_steps self.now.parts) (place + 1) }
-    {
-        if place >= self.parts.held {
-            return None;
-        }
-        self.held_place(self.index.next_silent[place])
+        self.steps_sought(Sought::Silent, self.index.silent)
     }
 }

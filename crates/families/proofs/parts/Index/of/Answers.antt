@@ -1,11 +1,11 @@
-use Rattle.std.proofs.Common.{◌≡◌, ℕ, ◌+◌, ◌-◌, ◌<◌, length, sym, refl, subst, arith}
+use Rattle.std.proofs.Common.{◌≡◌, ℕ, ◌+◌, ◌-◌, ◌<◌, length, sym, subst, arith}
 use Rattle.families.specs.declared.parts.Step.{Step}
 use Rattle.families.specs.Places.{Indexes}
 use Rattle.families.proofs.Chains.{index_none, index_more, sized_none, sized_more}
 use Rattle.families.proofs.parts.Index.of.Goals as goal
 
 pub loop-place-init : goal.loop-place-init
-loop-place-init g c = (index_none c.args.steps.now (length c.args.steps.now) refl, sized_none (length c.args.steps.now))
+loop-place-init g c = (index_none c.args.steps.now, sized_none)
 
 pub loop-place-preserved : goal.loop-place-preserved
 loop-place-preserved g c =
