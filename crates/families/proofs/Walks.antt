@@ -28,11 +28,11 @@ module _ {S : Type 0} (q : Sought) (xs : List (Step S)) where
     unfolding numbered
     numbered_here e = front ∙ cond-true (is_sought q x) ((k, x) ∷ numbered q (drop (k + 1) xs) (k + 1)) (numbered q (drop (k + 1) xs) (k + 1)) e
 
-    numbered_later : is_sought q x ≡ false → numbered q (drop k xs) k ≡ numbered q (drop (k + 1) xs) (k + 1)
+    pub numbered_later : is_sought q x ≡ false → numbered q (drop k xs) k ≡ numbered q (drop (k + 1) xs) (k + 1)
     unfolding numbered
     numbered_later e = front ∙ cond-false (is_sought q x) ((k, x) ∷ numbered q (drop (k + 1) xs) (k + 1)) (numbered q (drop (k + 1) xs) (k + 1)) e
 
-  numbered_end : (k : ℕ) → length xs ≤ k → numbered q (drop k xs) k ≡ []
+  pub numbered_end : (k : ℕ) → length xs ≤ k → numbered q (drop k xs) k ≡ []
   unfolding numbered
   numbered_end k l = ap (λ (ys : List (Step S)). numbered q ys k) (drop_all k xs l)
 
@@ -104,3 +104,65 @@ module _ {S : Type 0} (q : Sought) (xs : List (Step S)) where
       by : (r : Sought) → sought_from r xs k ≡ Some p → Comes r xs p
       by (Leaving s) = come (Leaving s) (λ x. x.from) s (λ x. refl) xs (length xs - k) k p (omega arith)
       by Silent = come Silent (λ x. x.action) 0 (λ x. refl) xs (length xs - k) k p (omega arith)
+
+-- A loop over the steps that are sought: those that it passes over change nothing, so that it comes to what all steps give.
+module _ {S : Type 0} (q : Sought) (xs : List (Step S)) where
+  -- P holds of the steps before some place, and those that are sought from there on are left
+  pub record Walked (P : ℕ → Type 0) (left : List (ℕ × Step S)) : Type 0 where
+    pub place : ℕ
+    pub within : place ≤ length xs
+    pub rest : left ≡ numbered q (drop place xs) place
+    pub before : P place
+
+  -- the step x at place p is sought; P holds of the steps before it, and those that are sought after it are left
+  pub record Here (P : ℕ → Type 0) (p : ℕ) (x : Step S) (left : List (ℕ × Step S)) : Type 0 where
+    pub below : p < length xs
+    pub read : x ≡ get_or xs p x
+    pub is : is_sought q x ≡ true
+    pub there : P p
+    pub rest : left ≡ numbered q (drop (p + 1) xs) (p + 1)
+
+  pub walk_none : (P : ℕ → Type 0) (left : List (ℕ × Step S)) → left ≡ numbered q xs 0 → P 0 → Walked P left
+  walk_none P left e h = record { place = 0; within = omega arith; rest = e; before = h }
+
+  pub walk_more : (P R : ℕ → Type 0) (p : ℕ) (x : Step S) (left : List (ℕ × Step S)) → Here P p x left → R (p + 1) → Walked R left
+  walk_more P R p x left here h = record { place = p + 1; within = omega (arith, here.below); rest = here.rest; before = h }
+
+  -- steps that are not sought change nothing
+  module _ (P : ℕ → Type 0) (pass : (j : ℕ) (x : Step S) → j < length xs → x ≡ get_or xs j x → is_sought q x ≡ false → P j → P (j + 1)) where
+    here_from : (n k : ℕ) → k + n ≡ length xs → P k → (p : ℕ) (x : Step S) (left : List (ℕ × Step S)) → numbered q (drop k xs) k ≡ (p, x) ∷ left → Here P p x left
+    here_from zero k e h p x left is = let none : ◌≡◌ {A = List (ℕ × Step S)} [] ((p, x) ∷ left) = sym (numbered_end q xs k (omega arith)) ∙ is in absurd (cc none)
+    here_from (suc n) k e h p x left is =
+        let l : k < length xs = omega arith in
+        let y = read_at xs k l in
+        by y.0 l y.1 (is_sought q y.0) refl (λ h' is'. here_from n (k + 1) (omega arith) h' p x left is')
+      where
+        found : (y : Step S) → is_sought q y ≡ true → k < length xs → y ≡ get_or xs k y → k ≡ p → y ≡ x → numbered q (drop (k + 1) xs) (k + 1) ≡ left → Here P p x left
+        found y s l read at same rest =
+            subst (λ (i : ℕ). Here P i x left) at
+            (subst (λ (z : Step S). Here P k z left) same (record { below = l; read = read; is = s; there = h; rest = sym rest }))
+
+        by : (y : Step S) → k < length xs → y ≡ get_or xs k y → (b : Bool) → is_sought q y ≡ b →
+            (P (k + 1) → numbered q (drop (k + 1) xs) (k + 1) ≡ (p, x) ∷ left → Here P p x left) → Here P p x left
+        by y l read true s later =
+            let same : (k, y) ∷ numbered q (drop (k + 1) xs) (k + 1) ≡ (p, x) ∷ left = sym (numbered_here q xs k y l read s) ∙ is in
+            let head : ◌≡◌ {A = ℕ × Step S} (k, y) (p, x) = cc same in
+            found y s l read (ap (λ (w : ℕ × Step S). w.0) head) (ap (λ (w : ℕ × Step S). w.1) head) (cc same)
+        by y l read false s later = later (pass k y l read s h) (sym (numbered_later q xs k y l read s) ∙ is)
+
+    pub walk_here : (p : ℕ) (x : Step S) (left left' : List (ℕ × Step S)) → Walked P left → left ≡ (p, x) ∷ left' → Here P p x left'
+    walk_here p x left left' walked e = here_from (length xs - walked.place) walked.place (omega (arith, walked.within)) walked.before p x left' (sym walked.rest ∙ e)
+
+    all_from : (n k : ℕ) → k + n ≡ length xs → P k → numbered q (drop k xs) k ≡ [] → P (length xs)
+    all_from zero k e h is = subst P (omega arith) h
+    all_from (suc n) k e h is =
+        let l : k < length xs = omega arith in
+        let y = read_at xs k l in
+        by y.0 l y.1 (is_sought q y.0) refl (λ h' is'. all_from n (k + 1) (omega arith) h' is')
+      where
+        by : (y : Step S) → k < length xs → y ≡ get_or xs k y → (b : Bool) → is_sought q y ≡ b → (P (k + 1) → numbered q (drop (k + 1) xs) (k + 1) ≡ [] → P (length xs)) → P (length xs)
+        by y l read true s later = let none : ◌≡◌ {A = List (ℕ × Step S)} [] ((k, y) ∷ numbered q (drop (k + 1) xs) (k + 1)) = sym is ∙ numbered_here q xs k y l read s in absurd (cc none)
+        by y l read false s later = later (pass k y l read s h) (sym (numbered_later q xs k y l read s) ∙ is)
+
+    pub walk_all : (left : List (ℕ × Step S)) → Walked P left → left ≡ [] → P (length xs)
+    walk_all left walked e = all_from (length xs - walked.place) walked.place (omega (arith, walked.within)) walked.before (sym walked.rest ∙ e)
