@@ -4,7 +4,12 @@ use Rattle.theory.specs.Sets.{Variants}
 use Rattle.theory.specs.Tables as theory
 use Rattle.variants.specs.declared.VariantSet.{Ghosts as Kind}
 use Rattle.tables.specs.declared.Table.{Table}
+use Rattle.tables.specs.declared.reading.Grid.{Grid}
 use Rattle.tables.specs.Cells.{grid}
+
+-- what the sets in memory show at the pairs
+abbrev pub shown : {S : Type 0} → Kind S → Grid S → theory.Table
+shown K g = grid K g.rows g.cols g.cells.now
 
 -- what stands at the pairs of a table
 abbrev pub standing : {S : Type 0} → Kind S → Table S → theory.Table

@@ -2,14 +2,16 @@
 
 // Tables of variant sets over lent memory: a row for each left state, in it a set for each right state.
 ghost use Rattle.std.specs.Prelude.{◌≡◌, ℕ, ◌+◌, ◌*◌, set};
-ghost use Rattle.tables.specs.Cells.{cell, grid};
+ghost use Rattle.tables.specs.Cells.{cell};
 ghost use Rattle.tables.specs.Tables.{standing, written, Has, Resembles, Same};
 
 use variants::VariantSet;
 
 mod filling;
+mod reading;
 
 pub use filling::{Origin, fill};
+pub use reading::{Grid, nth};
 
 // The set of the pair of `s` and `t` stands at place `s` times `cols` plus `t`; later places are not the table's.
 #[derive(Drop)]
@@ -17,32 +19,6 @@ pub struct Table<'t, S> {
     rows: u8,
     cols: u8,
     cells: &'t mut [S],
-}
-
-// The set at a place of a row, or the empty set past its end.
-pub fn nth<S: VariantSet>(row: &[S], place: u8) -> S
-    ensures { (v : ℕ) → S.VariantSet.holds result v ≡ cell S.VariantSet row.now place v }
-{
-    let place = place as usize;
-    if place < row.len() {
-        row[place]
-    } else {
-        S::none()
-    }
-}
-
-// The row of a left state in a table of so many rows and columns, as far as the memory has it; empty where
-// there is no such row.
-pub fn row_of<S: VariantSet>(rows: u8, cols: u8, cells: &[S], s: u8) -> &[S]
-    ensures { (t v : ℕ) → cell S.VariantSet result.now t v ≡ grid S.VariantSet rows cols cells.now s t v }
-{
-    let first = s as usize * cols as usize;
-    let end = (first + cols as usize).min(cells.len());
-    if s < rows && first < end {
-        &cells[first..end]
-    } else {
-        &cells[0..0]
-    }
 }
 
 impl<'t, S: VariantSet> Table<'t, S> {
@@ -70,19 +46,31 @@ impl<'t, S: VariantSet> Table<'t, S> {
         self.cols
     }
 
+    // The table as it is read.
+    pub fn grid(&self) -> Grid<S>
+        ensures rows { result.rows ≡ self.now.rows }
+        ensures cols { result.cols ≡ self.now.cols }
+        ensures cells { result.cells.now ≡ self.now.cells.now }
+    {
+        Grid {
+            rows: self.rows,
+            cols: self.cols,
+            cells: &*self.cells,
+        }
+    }
+
     // The row of a left state.
     pub fn row(&self, s: u8) -> &[S]
         ensures { (t v : ℕ) → cell S.VariantSet result.now t v ≡ standing S.VariantSet self.now s t v }
     {
-        let cells: &[S] = &*self.cells;
-        row_of(self.rows, self.cols, cells, s)
+        self.grid().row(s)
     }
 
     // The set of a pair, or the empty set where the table has no such pair.
     pub fn at(&self, s: u8, t: u8) -> S
         ensures { (v : ℕ) → S.VariantSet.holds result v ≡ standing S.VariantSet self.now s t v }
     {
-        nth(self.row(s), t)
+        self.grid().at(s, t)
     }
 
     // Writes the set of a pair; nothing where the table has no such pair.
