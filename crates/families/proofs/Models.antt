@@ -1,11 +1,9 @@
 -- What a label and a step do to what parts mean.
-use Rattle.std.proofs.Common.{◌≡◌, ℕ, zero, suc, ◌+◌, ◌<◌, cond, eqb, List, [], ◌∷◌, ◌++◌, map, length, get_or, take, set, replicate, sym, refl, ap, ◌∙◌, subst, ap₂, subst₂, inl, inr, arith}
+use Rattle.std.proofs.Common.{◌≡◌, ℕ, zero, suc, ◌+◌, ◌<◌, cond, eqb, List, [], ◌∷◌, ◌++◌, map, length, get_or, take, set, replicate, sym, refl, ap, ◌∙◌, subst, ap₂, inl, inr, arith}
 use mathlib.Core.Path.{fun_ext}
 use mathlib.Core.List.Memᴰ
 use mathlib.Core.List.{Memᴰ}
-use Rattle.std.specs.List.{AllWithin}
 use Rattle.std.proofs.lemmas.List.{get_or-set_same, get_or-set_other, take_more_set, map_push, map_more, length-take, get_or-take}
-use Rattle.std.proofs.lemmas.List.Elements.{AllWithin-more_set}
 use Rattle.std.proofs.lemmas.Bool.{cases_eq, cond-true, cond-false, eq-eqb, ne_eqb}
 use Rattle.theory.specs.Systems as theory
 use Rattle.theory.specs.Marks.{At, here, there}
@@ -42,14 +40,6 @@ labels_set xs i x l = fun_ext at
 
 -- one step more is held
 module _ {S : Type 0} (p q : Parts S) (x : Step S) (l : p.held < length p.steps.now) (e : Pushed p x q) where
-  -- an end of every step is a state still
-  pub pushed_every : (end : Step S → ℕ) → AllWithin (λ y. end y < p.states) p.steps.now 0 p.held → end x < p.states →
-      AllWithin (λ y. end y < q.states) q.steps.now 0 q.held
-  pushed_every end h y =
-      subst (λ (n : ℕ). AllWithin (λ z. end z < n) q.steps.now 0 q.held) (sym e.states)
-      (subst₂ (λ (xs : List (Step S)) (k : ℕ). AllWithin (λ z. end z < p.states) xs 0 k) (sym e.steps) (sym e.held)
-      (AllWithin-more_set p.steps.now p.held x l (λ z. end z < p.states) h y))
-
   pub pushed_means : (K : Kind S) → meaning K q ≡ with_step (meaning K p) (step_of K x)
   pushed_means K =
       ap₂ (λ (n s : ℕ). made n s q.labels (map (step_of K) (take q.held q.steps.now))) e.states e.start
@@ -83,8 +73,8 @@ step_between {S} f xs e i x l read =
     let p = f.parts in
     let held : i < p.held = omega (arith, ap length e, length-take p.held p.steps.now) in
     let is : x ≡ get_or p.steps.now i x = read ∙ ap (λ (ys : List (Step S)). get_or ys i x) e ∙ get_or-take p.held p.steps.now i x held in (
-      subst (λ (y : Step S). y.from < p.states) (sym is) (f.leaves i x (omega arith) held),
-      subst (λ (y : Step S). y.to < p.states) (sym is) (f.enters i x (omega arith) held),
+      subst (λ (y : Step S). y.from < p.states) (sym is) (p.leaves i x (omega arith) held),
+      subst (λ (y : Step S). y.to < p.states) (sym is) (p.enters i x (omega arith) held),
     )
 
 -- where a member of a mapped list comes from

@@ -1,3 +1,4 @@
+pub mod Bounds
 pub mod Parts
 pub mod Places
 pub mod Models

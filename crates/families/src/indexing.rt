@@ -1,7 +1,6 @@
 // The places of steps in their list, by the state that they leave.
 ghost use Rattle.std.specs.Prelude.{◌<◌, ◌≤◌, length};
 ghost use Rattle.std.specs.List.{AllWithin};
-ghost use Rattle.families.specs.Parts.{Room, FewStates, LeaveStates};
 ghost use Rattle.families.specs.Models.{held_steps};
 ghost use Rattle.families.specs.Places.{Indexes, Added};
 
@@ -49,9 +48,6 @@ impl Index {
 impl<'a, S: Copy> Parts<'a, S> {
     // The index of the steps that are held.
     pub(crate) fn index(&self) -> Index
-        requires room { Room self.now }
-        requires states { FewStates self.now }
-        requires leaves { LeaveStates self.now }
         ensures { Indexes (held_steps self.now) 0 result }
     {
         let steps: &[Step<S>] = &*self.steps;

@@ -1,7 +1,6 @@
 #![tactic(auto)]
 
 // Families of transition systems: drafts that take labels and steps, and closed families that are read.
-ghost use Rattle.families.specs.Parts.{FewStates, StartsInside, Room, LeaveStates, EnterStates};
 ghost use Rattle.families.specs.Models.{held_steps};
 ghost use Rattle.families.specs.Places.{FirstLeaving, NextLeaving, FirstSilent, NextSilent};
 
@@ -20,11 +19,6 @@ pub use seeking::{Sought, Steps};
 #[derive(Drop)]
 pub struct Draft<'a, S> {
     parts: Parts<'a, S>,
-    ghost states: { FewStates parts },
-    ghost start: { StartsInside parts },
-    ghost room: { Room parts },
-    ghost leaves: { LeaveStates parts },
-    ghost enters: { EnterStates parts },
 }
 
 // A closed family, which does not change; the index has the places of its steps by the state that they leave.
@@ -32,11 +26,6 @@ pub struct Draft<'a, S> {
 pub struct Family<'a, S> {
     parts: Parts<'a, S>,
     index: Index,
-    ghost states: { FewStates parts },
-    ghost start: { StartsInside parts },
-    ghost room: { Room parts },
-    ghost leaves: { LeaveStates parts },
-    ghost enters: { EnterStates parts },
     ghost first_leaving: { FirstLeaving (held_steps parts) 0 index },
     ghost next_leaving: { NextLeaving (held_steps parts) 0 index },
     ghost first_silent: { FirstSilent (held_steps parts) 0 index },

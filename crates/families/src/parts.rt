@@ -1,6 +1,5 @@
 // What drafts and closed families hold.
-ghost use Rattle.std.specs.Prelude.{◌≡◌, ◌<◌, not, length, nat_lt};
-ghost use Rattle.families.specs.Parts.{capacity, Pushed};
+ghost use Rattle.families.specs.Bounds.{FewStates, StartsInside, Room, LeaveStates, EnterStates};
 
 // A step from one state by an action to another, there in the variants that `set` holds.
 // Action 0 is silent.
@@ -38,9 +37,17 @@ pub struct Parts<'a, S> {
     pub(crate) labels: [u16; 64],
     pub(crate) held: usize,
     pub(crate) steps: &'a mut [Step<S>],
+    ghost few: { FewStates states },
+    ghost inside: { StartsInside states start },
+    ghost room: { Room steps.now held },
+    ghost leaves: { LeaveStates steps.now held states },
+    ghost enters: { EnterStates steps.now held states },
 }
 
 impl<'a, S: Copy> Parts<'a, S> {
+    ghost use Rattle.std.specs.Prelude.{◌≡◌, ◌<◌, not, length, nat_lt};
+    ghost use Rattle.families.specs.Parts.{capacity, Pushed};
+
     // Whether the capacity is reached.
     pub(crate) fn is_full(&self) -> bool
         ensures { result ≡ not (nat_lt self.now.held (capacity self.now)) }
@@ -50,7 +57,9 @@ impl<'a, S: Copy> Parts<'a, S> {
 
     // Holds one step more.
     pub(crate) fn push(&mut self, step: Step<S>)
-        requires { self.old.held < length self.old.steps.now }
+        requires room { self.old.held < capacity self.old }
+        requires from { step.from < self.old.states }
+        requires to { step.to < self.old.states }
         ensures { Pushed self.old step self.new }
     {
         self.steps[self.held] = step;

@@ -1,4 +1,4 @@
-use Rattle.std.proofs.Common.{◌≡◌, ℕ, ◌+◌, ◌≤◌, ◌<◌, true, eqb, List, length, get_or, sym, ap, ◌∙◌, subst, arith, rules}
+use Rattle.std.proofs.Common.{◌≡◌, ℕ, ◌+◌, ◌≤◌, ◌<◌, true, List, length, get_or, sym, ap, ◌∙◌, subst, arith}
 use Rattle.std.proofs.lemmas.List.{length-take, get_or-map}
 use Rattle.std.proofs.lemmas.Bool.{eqb-true}
 use Rattle.families.specs.declared.parts.Step.{Step}
@@ -6,7 +6,7 @@ use Rattle.families.specs.declared.parts.Index.{Index}
 use Rattle.families.specs.declared.seeking.Sought.{Sought}
 use Rattle.families.specs.declared.seeking.Sought.TheVariants.{Leaving, Silent}
 use Rattle.families.specs.Models.{held_steps}
-use Rattle.families.specs.Places.{sources, leaving_from, NextLeaving, NextSilent, link_at}
+use Rattle.families.specs.Places.{leaving_from, NextLeaving, NextSilent, link_at}
 use Rattle.families.specs.Seeking.{is_sought, sought_from, numbered_from, along, Linked}
 use Rattle.families.proofs.Walks.{numbered_sought}
 use Rattle.families.proofs.Family.steps_sought.Goals as goal
@@ -24,7 +24,7 @@ invariant_of-result g c =
     let f = c.args.self.now in
     let xs = held_steps f.parts in
     let q = c.args.sought in
-    let few : length xs ≤ 1024 = omega (arith, length-take f.parts.held f.parts.steps.now, f.room.0) in
+    let few : length xs ≤ 1024 = omega (arith, length-take f.parts.held f.parts.steps.now, f.parts.room.0) in
     subst (λ (ys : List (Step _)). Linked q ys f.index.links c.args.first) (sym c.steps.ensures)
     (record { room = few; first = (0, omega arith, c.requires); after = links_lead q xs f.index f.next_leaving f.next_silent })
 

@@ -1,4 +1,4 @@
-use Rattle.std.proofs.Common.{◌≡◌, ℕ, ◌+◌, ◌-◌, ◌<◌, length, sym, subst, arith}
+use Rattle.std.proofs.Common.{◌≡◌, ℕ, ◌+◌, ◌-◌, ◌<◌, sym, subst, arith}
 use Rattle.families.specs.declared.parts.Step.{Step}
 use Rattle.families.specs.Places.{Indexes}
 use Rattle.families.proofs.Chains.{index_none, index_more, sized_none, sized_more}

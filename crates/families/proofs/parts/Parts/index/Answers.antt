@@ -8,8 +8,8 @@ of-requires g c =
     let p = c.args.self.now in
     let long = length-take p.held p.steps.now in
     record {
-      few = omega (arith, long, c.requires.room.0);
+      few = omega (arith, long, p.room.0);
       leaves = λ k d l m.
           let below : k < p.held = omega (arith, long) in
-          subst (λ (x : Step _). x.from < 64) (sym (get_or-take p.held p.steps.now k d below)) (omega (arith, c.requires.leaves k d l below, c.requires.states.1));
+          subst (λ (x : Step _). x.from < 64) (sym (get_or-take p.held p.steps.now k d below)) (omega (arith, p.leaves k d l below, p.few.1));
     }

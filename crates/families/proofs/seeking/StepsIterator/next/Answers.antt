@@ -1,10 +1,10 @@
-use Rattle.std.proofs.Common.{◌≡◌, ℕ, ◌+◌, ◌<◌, ◌≤◌, List, [], ◌∷◌, length, get_or, drop, Some, None, Option, sym, refl, ap, ◌∙◌, subst, arith}
+use Rattle.std.proofs.Common.{◌≡◌, ℕ, ◌+◌, ◌<◌, List, ◌∷◌, length, get_or, drop, Some, Option, sym, ap, ◌∙◌, arith}
 use Rattle.families.specs.declared.parts.Step.{Step}
 use Rattle.families.specs.declared.parts.Link.{Link}
 use Rattle.families.specs.declared.seeking.Sought.{Sought}
 use Rattle.families.specs.Places.{link_at}
 use Rattle.families.specs.Seeking.{numbered, numbered_from, sought_from, along, Linked}
-use Rattle.families.proofs.Walks.{Comes, comes, numbered_here, numbered_sought}
+use Rattle.families.proofs.Walks.{comes, numbered_here, numbered_sought}
 use Rattle.families.proofs.seeking.StepsIterator.next.Goals as goal
 
 -- after the next one, if there is one, comes the first after its place
