@@ -50,7 +50,6 @@ impl<'a, S: Copy> Parts<'a, S> {
     pub(crate) fn index(&self) -> Index
         ensures { Indexes (held_steps self.now) 0 result }
     {
-        let steps: &[Step<S>] = &*self.steps;
-        Index::of(&steps[..self.held])
+        Index::of(&self.steps[..self.held])
     }
 }

@@ -41,8 +41,7 @@ impl<'a, S: VariantSet> Family<'a, S> {
     pub fn steps(&self) -> &[Step<S>]
         ensures { result.now ≡ held_steps self.now.parts }
     {
-        let steps: &[Step<S>] = &*self.parts.steps;
-        &steps[..self.parts.held]
+        &self.parts.steps[..self.parts.held]
     }
 
     // The steps that are sought, from the first place of one on.
