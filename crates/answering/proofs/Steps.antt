@@ -1,29 +1,34 @@
--- One step more that may answer.
-use Rattle.std.proofs.Common.{◌≡◌, ℕ, ◌+◌, ◌<◌, Bool, true, false, ◌&&◌, ◌||◌, eqb, List, map, length, get_or, take, refl, ap, ◌∙◌}
-use Rattle.std.proofs.lemmas.Bool.{ne_eqb}
+-- The answers among the steps that leave a state.
+use Rattle.std.proofs.Common.{◌≡◌, ℕ, ◌+◌, Bool, true, false, cond, ◌&&◌, ◌||◌, eqb, List, [], ◌∷◌, map, sym, refl, ap, ◌∙◌}
 use Rattle.theory.specs.Systems as theory
 use Rattle.theory.specs.Tables.{Table}
 use Rattle.theory.specs.Sweeps.{answers, answered}
-use Rattle.theory.proofs.Rules.{answered_push}
 use Rattle.variants.specs.declared.VariantSet.{Ghosts as Kind}
 use Rattle.families.specs.declared.parts.Step.{Step}
+use Rattle.families.specs.declared.seeking.Sought.TheVariants.{Leaving}
 use Rattle.families.specs.Models.{step_of}
-use Rattle.families.proofs.Models.{steps_more}
+use Rattle.families.specs.Seeking.{numbered}
 
-module _ {S : Type 0} (K : Kind S) (xs : List (Step S)) (i : ℕ) (x : Step S) (l : i < length xs) (read : x ≡ get_or xs i x) (T : Table) (t : ℕ) (y : theory.Step) (v : ℕ) where
-  pub answered_more : answered (map (step_of K) (take (i + 1) xs)) T t y v ≡ (answered (map (step_of K) (take i xs)) T t y v || answers T t y v (step_of K x))
-  answered_more =
-      ap (λ (rs : List theory.Step). answered rs T t y v) (steps_more K xs i x l read)
-      ∙ answered_push T t y v (map (step_of K) (take i xs)) (step_of K x)
+module _ {S : Type 0} (K : Kind S) (T : Table) (t : ℕ) (y : theory.Step) (v : ℕ) where
+  -- one of the steps, each with its place, answers
+  abbrev pub answered_by : List (ℕ × Step S) → Bool
+  answered_by ps = answered (map (λ p. step_of K p.1) ps) T t y v
 
   -- a step from elsewhere answers nothing
-  pub answered_past : (x.from ≡ t → ⊥) → answered (map (step_of K) (take (i + 1) xs)) T t y v ≡ answered (map (step_of K) (take i xs)) T t y v
-  answered_past ne =
-      answered_more ∙ ap (λ (b : Bool). answered (map (step_of K) (take i xs)) T t y v || (b && rest)) (ne_eqb _ _ ne) ∙ or_false (answered (map (step_of K) (take i xs)) T t y v)
+  pub answered_leaving : (xs : List (Step S)) (k : ℕ) → answered_by (numbered (Leaving t) xs k) ≡ answered (map (step_of K) xs) T t y v
+  unfolding numbered
+  answered_leaving [] k = refl
+  answered_leaving (x ∷ xs) k = either (eqb x.from t) refl (answered_leaving xs (k + 1))
     where
-      rest : Bool
-      rest = eqb x.action y.action && (K.holds x.set v && T y.to x.to v)
+      later : List (ℕ × Step S)
+      later = numbered (Leaving t) xs (k + 1)
 
-      or_false : (b : Bool) → (b || false) ≡ b
-      or_false true = refl
-      or_false false = refl
+      all : Bool
+      all = answered (map (step_of K) xs) T t y v
+
+      does : Bool
+      does = eqb x.action y.action && (K.holds x.set v && T y.to x.to v)
+
+      either : (b : Bool) → eqb x.from t ≡ b → answered_by later ≡ all → answered_by (cond b ((k, x) ∷ later) later) ≡ (answers T t y v (step_of K x) || all)
+      either true e h = ap (λ (b : Bool). answers T t y v (step_of K x) || b) h
+      either false e h = h ∙ sym (ap (λ (b : Bool). (b && does) || all) e)

@@ -56,6 +56,7 @@ fn joined<S: VariantSet, P: Partners<S>>(
 
 // The variants in which some step of the family from `t` has the action of `step` and enters one of the
 // partners.
+#[tactic(auto, using(crate::proofs::Steps::answered_leaving))]
 pub fn answered<S: VariantSet, P: Partners<S>>(
     step: Step<S>,
     family: &Family<S>,
@@ -64,12 +65,9 @@ pub fn answered<S: VariantSet, P: Partners<S>>(
 ) -> S
     ensures { (v : ℕ) → S.VariantSet.holds result v ≡ answered (model S.VariantSet family.now).steps (each_row (P.Partners.paired partners.now)) t (step_of S.VariantSet step) v }
 {
-    let steps = family.steps();
     let mut found = S::none();
-    let mut next = family.first_from(t);
-    while let Some(place) = next {
-        found = joined(found, step, steps[place], partners, t);
-        next = family.next_from(place);
+    for (_, answer) in family.steps_from(t) {
+        found = joined(found, step, answer, partners, t);
     }
     found
 }

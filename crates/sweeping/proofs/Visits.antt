@@ -1,9 +1,12 @@
 -- A table after a visit, and after several.
-use Rattle.std.proofs.Common.{◌≡◌, ℕ, ◌+◌, ◌*◌, false, ◌&&◌, eqb, length, sym, refl, ap, ◌∙◌, ap₂, inl, inr}
+use Rattle.std.proofs.Common.{◌≡◌, ℕ, ◌+◌, ◌*◌, false, ◌&&◌, eqb, length, sym, refl, ap, ◌∙◌, ap₂, inl, inr, ◌≤◌, mul-le-mul, arith}
 use mathlib.Core.Path.{fun_ext}
 use Rattle.std.proofs.lemmas.Bool.{and_parts, and_left, and_from, eqb-true, eq-eqb, cases_Bool, cases_lt, cond-true, cond-false}
+use Rattle.theory.specs.Sets.{gone}
 use Rattle.theory.specs.Tables as theory
-use Rattle.theory.specs.Sweeps.{Rule, visited}
+use Rattle.theory.specs.Sweeps.{Rule, visited, row_struck}
+use Rattle.theory.proofs.Sweeps.{row_struck_few}
+use Rattle.theory.proofs.Cards.{gone_same}
 use Rattle.variants.specs.declared.VariantSet.{Ghosts as Kind}
 use Rattle.tables.specs.declared.Table.{Table}
 use Rattle.tables.specs.Cells.{grid}
@@ -49,3 +52,16 @@ module _ {S : Type 0} (K : Kind S) (rule : Rule) (T U : Table S) (s t : ℕ) (x 
         ∙ ap (grid K T.rows T.cols) same.cells
         ∙ visited_nothing rule (standing K T) s t none
   ]
+
+  -- and what was struck is what the table has lost there
+  pub struck_here : (V : ℕ) → gone V (standing K T s t) (K.holds x) ≡ gone V (standing K T s t) (standing K U s t)
+  struck_here V =
+      gone_same V (standing K T s t) (standing K T s t) (K.holds x) (standing K U s t) (λ v. refl)
+      (λ v. kept v ∙ sym (visited_here rule (standing K T) s t v) ∙ sym (ap (λ (X : theory.Table). X s t v) visit_done))
+
+-- the visits of a part of a row strike no more than its 256 pairs hold
+pub row_struck_fits : (V : ℕ) (rule : Rule) (T : theory.Table) (s t : ℕ) → t ≤ 256 → V ≤ 1024 → row_struck V rule T s t ≤ 256 * 1024
+row_struck_fits V rule T s t far narrow =
+    let few = row_struck_few V rule T s t in
+    let bound : t * V ≤ 256 * 1024 = mul-le-mul far narrow in
+    omega arith

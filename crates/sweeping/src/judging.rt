@@ -6,10 +6,11 @@ ghost use Rattle.families.specs.Models.{step_of};
 ghost use Rattle.families.specs.Drafts.{model};
 ghost use Rattle.tables.specs.Tables.{standing};
 ghost use Rattle.variants.specs.Kinds.{Countable};
-ghost use Rattle.sweeping.specs.Visits.{rule_of};
+ghost use Rattle.sweeping.specs.Visits.{keeping};
 
+use crate::Rule;
 use answering::{Row, answered};
-use families::{Family, Step};
+use families::Step;
 use tables::Table;
 use variants::VariantSet;
 
@@ -21,6 +22,7 @@ pub struct Judged<S> {
 }
 
 // `judged` after the left step: without the variants that it holds and in which it is not followed.
+#[tactic(auto, using(crate::proofs::Steps::spared))]
 fn struck<S: VariantSet>(judged: Judged<S>, left: Step<S>, followed: S) -> Judged<S>
     ensures kept { (v : ℕ) → S.VariantSet.holds result.kept v ≡ (S.VariantSet.holds judged.kept v && (not (S.VariantSet.holds left.set v) || S.VariantSet.holds followed v)) }
     ensures strikes { Countable S.VariantSet → judged.strikes ≤ 1024 → result.strikes ≡ judged.strikes + gone S.VariantSet.variants (S.VariantSet.holds judged.kept) (S.VariantSet.holds result.kept) }
@@ -33,48 +35,43 @@ fn struck<S: VariantSet>(judged: Judged<S>, left: Step<S>, followed: S) -> Judge
     }
 }
 
-// `judged` after the left step was asked for as a step from `s`.
-fn after_step<S: VariantSet>(
-    judged: Judged<S>,
-    table: &Table<S>,
-    left: Step<S>,
-    right: &Family<S>,
-    s: u8,
-    t: u8,
-) -> Judged<S>
-    ensures kept { (v : ℕ) → S.VariantSet.holds result.kept v ≡ (S.VariantSet.holds judged.kept v && (not (applies s v (step_of S.VariantSet left)) || answered (model S.VariantSet right.now).steps (standing S.VariantSet table.now) t (step_of S.VariantSet left) v)) }
-    ensures strikes { Countable S.VariantSet → judged.strikes ≤ 1024 → result.strikes ≡ judged.strikes + gone S.VariantSet.variants (S.VariantSet.holds judged.kept) (S.VariantSet.holds result.kept) }
-{
-    if left.from != s {
-        return judged;
+impl<'f, S: VariantSet> Rule<'f, S> {
+    // `judged` after the left step was asked for as a step from `s`.
+    #[tactic(auto, using(theory::proofs::Cards::gone_nothing, theory::proofs::Rules::answered_row))]
+    fn after_step(
+        &self,
+        judged: Judged<S>,
+        table: &Table<S>,
+        left: Step<S>,
+        s: u8,
+        t: u8,
+    ) -> Judged<S>
+        ensures kept { (v : ℕ) → S.VariantSet.holds result.kept v ≡ (S.VariantSet.holds judged.kept v && (not (applies s v (step_of S.VariantSet left)) || answered (model S.VariantSet self.now.right.now).steps (standing S.VariantSet table.now) t (step_of S.VariantSet left) v)) }
+        ensures strikes { Countable S.VariantSet → judged.strikes ≤ 1024 → result.strikes ≡ judged.strikes + gone S.VariantSet.variants (S.VariantSet.holds judged.kept) (S.VariantSet.holds result.kept) }
+    {
+        if left.from != s {
+            return judged;
+        }
+        let entered = Row {
+            cells: table.row(left.to),
+        };
+        let followed = answered(left, self.right, &entered, t);
+        struck(judged, left, followed)
     }
-    let entered = Row {
-        cells: table.row(left.to),
-    };
-    let followed = answered(left, right, &entered, t);
-    struck(judged, left, followed)
-}
 
-// What the rule leaves of the pair of `s` and `t`.
-pub(crate) fn judge<S: VariantSet>(
-    table: &Table<S>,
-    left: &Family<S>,
-    right: &Family<S>,
-    s: u8,
-    t: u8,
-) -> Judged<S>
-    ensures kept { (v : ℕ) → S.VariantSet.holds result.kept v ≡ (standing S.VariantSet table.now s t v && rule_of S.VariantSet left.now right.now (standing S.VariantSet table.now) s t v) }
-    ensures strikes { Countable S.VariantSet → result.strikes ≡ gone S.VariantSet.variants (standing S.VariantSet table.now s t) (S.VariantSet.holds result.kept) }
-{
-    let steps = left.steps();
-    let mut judged = Judged {
-        kept: table.at(s, t),
-        strikes: 0,
-    };
-    let mut next = left.first_from(s);
-    while let Some(place) = next {
-        judged = after_step(judged, table, steps[place], right, s, t);
-        next = left.next_from(place);
+    // What the rule leaves of the pair of `s` and `t`.
+    #[tactic(auto, using(crate::proofs::Steps::kept_leaving, crate::proofs::Steps::gone_none))]
+    pub(crate) fn judge(&self, table: &Table<S>, s: u8, t: u8) -> Judged<S>
+        ensures kept { (v : ℕ) → S.VariantSet.holds result.kept v ≡ (standing S.VariantSet table.now s t v && keeping S.VariantSet self.now (standing S.VariantSet table.now) s t v) }
+        ensures strikes { Countable S.VariantSet → result.strikes ≡ gone S.VariantSet.variants (standing S.VariantSet table.now s t) (S.VariantSet.holds result.kept) }
+    {
+        let mut judged = Judged {
+            kept: table.at(s, t),
+            strikes: 0,
+        };
+        for (_, step) in self.left.steps_from(s) {
+            judged = self.after_step(judged, table, step, s, t);
+        }
+        judged
     }
-    judged
 }

@@ -4,4 +4,13 @@
 mod judging;
 mod visiting;
 
+use families::Family;
 pub use visiting::sweep;
+
+// The rule of simulations of two families: a pair keeps the variants in which each step of the left state is
+// answered by a step of the right one.
+#[derive(Drop)]
+struct Rule<'f, S> {
+    left: &'f Family<'f, S>,
+    right: &'f Family<'f, S>,
+}

@@ -1,19 +1,14 @@
-use Rattle.std.proofs.Common.{◌≡◌, ℕ, map, length, take}
+use Rattle.std.proofs.Common.{◌≡◌, ℕ, ◌||◌, map}
 use Rattle.theory.specs.Sweeps.{answered}
 use Rattle.families.specs.Models.{step_of, held_steps}
-use Rattle.families.proofs.Chains.{rest_of}
-use Rattle.families.proofs.Walks.{Walked}
 use Rattle.answering.specs.Partners.{each_row}
+use Rattle.answering.proofs.Steps.{answered_by}
 use Rattle.answering.proofs.answered.Given as goal
 
--- found is what the steps before the place give
-abbrev pub invariant-loop-next : goal.invariant-loop-next
-invariant-loop-next g l =
+-- what is found, and what the steps that are left answer, is what all steps answer
+abbrev pub invariant-loop-answer : goal.invariant-loop-answer
+invariant-loop-answer g l =
     let K = g.S.VariantSet in
-    let xs = held_steps l.family.parts in
-    Walked xs (λ x. x.from) l.t
-    (λ k. (v : ℕ) → K.holds l.found v ≡ answered (map (step_of K) (take k xs)) (each_row (g.P.Partners.paired l.partners)) l.t (step_of K l.step) v)
-    l.next
-
-abbrev pub decreases-loop-next : goal.decreases-loop-next
-decreases-loop-next g l = rest_of (length (held_steps l.family.parts)) l.next
+    let T = each_row (g.P.Partners.paired l.partners) in
+    let y = step_of K l.step in
+    (v : ℕ) → (K.holds l.found v || answered_by K T l.t y v l.answer-iterator) ≡ answered (map (step_of K) (held_steps l.family.parts)) T l.t y v
