@@ -1,5 +1,5 @@
--- What one write leaves of a table of reach.
-use Rattle.std.proofs.Common.{◌≡◌, ℕ, ◌+◌, ◌-◌, ◌*◌, ◌^◌, ◌<◌, ◌≤◌, min, Bool, true, ◌&&◌, ◌||◌, eqb, Decides, sym, ap, ◌∙◌, ap₂, inl, inr, mul-le-mul, arith}
+-- What one write leaves of a table of reach, and what is kept while the reach is worked out.
+use Rattle.std.proofs.Common.{◌≡◌, ℕ, ◌+◌, ◌-◌, ◌*◌, ◌^◌, ◌<◌, ◌≤◌, min, Bool, true, ◌&&◌, ◌||◌, eqb, Decides, refl, sym, ap, ◌∙◌, ap₂, inl, inr, mul-le-mul, arith}
 use Rattle.std.proofs.lemmas.Bool.{and_parts, eqb-true, cases_Bool, cond-true, cond-false}
 use Rattle.theory.specs.Sets.{Variants}
 use Rattle.theory.specs.Systems.{Step}
@@ -8,10 +8,11 @@ use Rattle.theory.specs.Reach.{joined}
 use Rattle.theory.proofs.Booleans.{or_false}
 use Rattle.theory.proofs.Reach.{same_table, Inside}
 use Rattle.variants.specs.declared.VariantSet.{Ghosts as Kind}
-use Rattle.tables.specs.declared.Table as tables
-use Rattle.tables.specs.Tables.{standing, written}
+use Rattle.tables.specs.Tables.{written}
 use Rattle.tables.proofs.Places.{grid_within}
-use Rattle.tables.proofs.Tables.{written_here}
+use Rattle.tables.proofs.Tables.{written_here, resembles_refl, resembles_trans}
+use Rattle.reaching.specs.declared.Reaching.{Reaching}
+use Rattle.reaching.specs.Working.{Kept, worked}
 
 -- the step's gain is written
 pub written_joined : (T : Table) (x : Step) (i : ℕ) (X : Variants) → ((v : ℕ) → X v ≡ (T i x.to v || (T i x.from v && x.held v))) →
@@ -49,12 +50,21 @@ written_same T U s t X Y r w old d = (
       | inr h ↦ cond-false (eqb s' s && eqb t' t) (X v) (T s' t' v) h
     ]
 
--- a square table holds nothing outside its states and the kind
-pub square_inside : {S : Type 0} (K : Kind S) → ((x : S) (v : ℕ) → K.holds x v ≡ true → v < K.variants) → (T : tables.Table S) (n : ℕ) → T.rows ≡ n → T.cols ≡ n →
-    Inside K.variants n (standing K T)
-square_inside K law T n p q s t v h =
+module _ {S : Type 0} where
+  pub kept_refl : (x : Reaching S) → Kept x x
+  kept_refl x = record { family = refl; memory = refl; table = resembles_refl x.table.now }
+
+  pub kept_trans : (x y z : Reaching S) → Kept x y → Kept y z → Kept x z
+  kept_trans x y z p q =
+      record { family = q.family ∙ p.family; memory = q.memory ∙ p.memory; table = resembles_trans x.table.now y.table.now z.table.now p.table q.table }
+
+-- what is worked out holds nothing outside the family's states and the kind
+pub worked_inside : {S : Type 0} (K : Kind S) → ((x : S) (v : ℕ) → K.holds x v ≡ true → v < K.variants) → (x : Reaching S) →
+    Inside K.variants x.family.now.parts.states (worked K x)
+worked_inside K law x s t v h =
+    let T = x.table.now in
     let i = grid_within K law T.rows T.cols T.cells.now s t v h in
-    (omega (arith, p, i.0), omega (arith, q, i.1), i.2)
+    (omega (arith, x.rows, i.0), omega (arith, x.cols, i.1), i.2)
 
 -- the count of the rounds is not capped
 pub counted_exact : (n V r m k : ℕ) → n ≤ 64 → V ≤ 1024 → r + m ≤ n * (n * V) → k ≡ min (r + 1) (2 ^ 32 - 1) → k ≡ r + 1
