@@ -5,14 +5,16 @@ ghost use Rattle.std.specs.Prelude.{◌≡◌};
 ghost use Rattle.masks.specs.Words.{word};
 ghost use Rattle.std.proofs.Common.{rules};
 
+use std::fmt;
 use variants::VariantSet;
 
 // The set of the numbers at which `bits` has a one: number `v` has the value 2 to the power of `v`.
-#[derive(Clone, Copy)]
+#[derive(Clone, Copy, Debug, Default, PartialEq, Eq)]
 pub struct Mask {
     pub bits: u64,
 }
 
+#[tactic(auto, using(crate::proofs::Words::held))]
 impl VariantSet for Mask {
     ghost variants = { 64 };
 
@@ -22,33 +24,33 @@ impl VariantSet for Mask {
 
     ghost within = { Prim.search rules };
 
-    fn none() -> Mask {
+    fn none() -> Self {
         Mask { bits: 0 }
     }
 
-    fn all() -> Mask {
+    fn all() -> Self {
         Mask { bits: u64::MAX }
     }
 
-    fn only(v: u32) -> Mask {
+    fn only(v: u32) -> Self {
         Mask {
             bits: if v < 64 { 1 << v } else { 0 },
         }
     }
 
-    fn both(self, other: Mask) -> Mask {
+    fn both(self, other: Self) -> Self {
         Mask {
             bits: self.bits & other.bits,
         }
     }
 
-    fn either(self, other: Mask) -> Mask {
+    fn either(self, other: Self) -> Self {
         Mask {
             bits: self.bits | other.bits,
         }
     }
 
-    fn without(self, other: Mask) -> Mask {
+    fn without(self, other: Self) -> Self {
         Mask {
             bits: self.bits & !other.bits,
         }
@@ -58,8 +60,8 @@ impl VariantSet for Mask {
         v < 64 && (self.bits >> v) & 1 == 1
     }
 
-    fn same(self, other: Mask) -> bool {
-        self.bits == other.bits
+    fn same(self, other: Self) -> bool {
+        self == other
     }
 
     fn count(self) -> u32 {
@@ -71,10 +73,33 @@ impl VariantSet for Mask {
     }
 
     fn least(self) -> Option<u32> {
-        if self.bits == 0 {
-            None
-        } else {
-            Some(self.bits.trailing_zeros())
+        (self.bits != 0).then_some(self.bits.trailing_zeros())
+    }
+}
+
+// The numbers held, in order: `{0,3}`, or `{}` where none is.
+impl fmt::Display for Mask {
+    fn fmt<W: fmt::Write>(&self, f: &mut fmt::Formatter<W>) -> fmt::Result {
+        write!(f, "{{")?;
+        if let Some(least) = self.least() {
+            write!(f, "{least}")?;
+            for v in (least + 1..Self::size()).filter(|&v| self.has(v)) {
+                write!(f, ",{v}")?;
+            }
         }
+        write!(f, "}}")
+    }
+}
+
+#[cfg(test)]
+mod tests {
+    use super::*;
+    use std::test::Fail;
+
+    #[test]
+    fn a_mask_is_written_as_its_numbers(rt: HostRuntime) -> Result<(), Fail> {
+        let text = format!(in rt.alloc(); "{} {}", Mask::none(), Mask { bits: 0b1001 })?;
+        assert_eq!(rt; text.as_str(), "{} {0,3}");
+        Ok(())
     }
 }

@@ -5,10 +5,10 @@ ghost use Rattle.std.specs.Prelude.{◌≡◌, ℕ, ◌+◌, Bool, true, false, 
 ghost use Rattle.pairs.specs.Joins.{joined};
 ghost use Rattle.std.proofs.Common.{rules};
 
-use variants::VariantSet;
+use variants::{LIMIT, VariantSet};
 
 // One set of each of two kinds: the numbers of the first kind come first, those of the second follow.
-#[derive(Clone, Copy)]
+#[derive(Clone, Copy, Debug, Default, PartialEq, Eq)]
 pub struct Pair<First, Second> {
     pub first: First,
     pub second: Second,
@@ -23,54 +23,48 @@ impl<First: VariantSet, Second: VariantSet> VariantSet for Pair<First, Second> {
 
     ghost within = { Prim.search rules };
 
-    fn none() -> Pair<First, Second> {
+    fn none() -> Self {
         Pair {
             first: First::none(),
             second: Second::none(),
         }
     }
 
-    fn all() -> Pair<First, Second> {
+    fn all() -> Self {
         Pair {
             first: First::all(),
             second: Second::all(),
         }
     }
 
-    // The first kind's size may be capped, so a number above 1023 is turned away before it is compared.
-    fn only(v: u32) -> Pair<First, Second> {
-        let none = Self::none();
+    // A capped size of the first kind says nothing of numbers above 1023, so the second half gets none of them.
+    fn only(v: u32) -> Self {
         let firsts = First::size();
-        if v > 1023 {
-            none
-        } else if v < firsts {
-            Pair {
-                first: First::only(v),
-                ..none
-            }
-        } else {
-            Pair {
-                second: Second::only(v - firsts),
-                ..none
-            }
+        Pair {
+            first: First::only(v),
+            second: if (firsts..LIMIT).contains(&v) {
+                Second::only(v - firsts)
+            } else {
+                Second::none()
+            },
         }
     }
 
-    fn both(self, other: Pair<First, Second>) -> Pair<First, Second> {
+    fn both(self, other: Self) -> Self {
         Pair {
             first: self.first.both(other.first),
             second: self.second.both(other.second),
         }
     }
 
-    fn either(self, other: Pair<First, Second>) -> Pair<First, Second> {
+    fn either(self, other: Self) -> Self {
         Pair {
             first: self.first.either(other.first),
             second: self.second.either(other.second),
         }
     }
 
-    fn without(self, other: Pair<First, Second>) -> Pair<First, Second> {
+    fn without(self, other: Self) -> Self {
         Pair {
             first: self.first.without(other.first),
             second: self.second.without(other.second),
@@ -82,32 +76,25 @@ impl<First: VariantSet, Second: VariantSet> VariantSet for Pair<First, Second> {
         if v < firsts {
             self.first.has(v)
         } else {
-            v < 1024 && self.second.has(v - firsts)
+            v < LIMIT && self.second.has(v - firsts)
         }
     }
 
-    fn same(self, other: Pair<First, Second>) -> bool {
+    fn same(self, other: Self) -> bool {
         self.first.same(other.first) && self.second.same(other.second)
     }
 
+    #[tactic(auto, using(crate::proofs::Joined::card_joined))]
     fn count(self) -> u32 {
-        (self.first.count() + self.second.count()).min(1025)
+        (self.first.count() + self.second.count()).min(LIMIT + 1)
     }
 
     fn size() -> u32 {
-        (First::size() + Second::size()).min(1025)
+        (First::size() + Second::size()).min(LIMIT + 1)
     }
 
     fn least(self) -> Option<u32> {
-        match self.first.least() {
-            Some(v) => Some(v),
-            None => match self.second.least() {
-                Some(w) => {
-                    let v = First::size() + w;
-                    if v > 1023 { None } else { Some(v) }
-                }
-                None => None,
-            },
-        }
+        let second = self.second.least().map(|w| First::size() + w);
+        self.first.least().or(second.filter(|&v| v < LIMIT))
     }
 }

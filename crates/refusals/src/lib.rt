@@ -7,20 +7,20 @@ ghost use Rattle.refusals.specs.Numbers.{number_of};
 use std::error::Error;
 use std::fmt;
 
-// A refusal; it makes nothing and changes nothing.
+// A refusal; it makes nothing and changes nothing. Each is known by the number beside it.
 #[derive(Clone, Copy, Debug, PartialEq, Eq)]
 pub enum Refusal {
-    StatesOutOfRange,
-    StartOutOfRange,
-    OtherFamilies,
-    NoSuchState,
-    NoRoomForStep,
-    KindTooLarge,
-    TableTooShort,
-    NoSuchVariant,
-    NotSettled,
-    ScratchTooShort,
-    UnlistedVariant,
+    StatesOutOfRange = 1,
+    StartOutOfRange = 2,
+    OtherFamilies = 3,
+    NoSuchState = 4,
+    NoRoomForStep = 5,
+    KindTooLarge = 6,
+    TableTooShort = 7,
+    NoSuchVariant = 8,
+    NotSettled = 9,
+    ScratchTooShort = 10,
+    UnlistedVariant = 11,
 }
 
 impl Refusal {
@@ -28,42 +28,25 @@ impl Refusal {
     pub fn number(self) -> u8
         ensures { result ≡ number_of self }
     {
-        match self {
-            Refusal::StatesOutOfRange => 1,
-            Refusal::StartOutOfRange => 2,
-            Refusal::OtherFamilies => 3,
-            Refusal::NoSuchState => 4,
-            Refusal::NoRoomForStep => 5,
-            Refusal::KindTooLarge => 6,
-            Refusal::TableTooShort => 7,
-            Refusal::NoSuchVariant => 8,
-            Refusal::NotSettled => 9,
-            Refusal::ScratchTooShort => 10,
-            Refusal::UnlistedVariant => 11,
-        }
-    }
-}
-
-// The refusal in words.
-fn reason(refusal: Refusal) -> &'static str {
-    match refusal {
-        Refusal::StatesOutOfRange => "a family has 1 to 64 states",
-        Refusal::StartOutOfRange => "the start is not one of the states",
-        Refusal::OtherFamilies => "a family differs from its side in its states or its start",
-        Refusal::NoSuchState => "there is no such state",
-        Refusal::NoRoomForStep => "there is no room for one more step",
-        Refusal::KindTooLarge => "the kind has more than 1,024 variants",
-        Refusal::TableTooShort => "the table has fewer places than there are pairs of states",
-        Refusal::NoSuchVariant => "there is no such variant",
-        Refusal::NotSettled => "no sweep was made, or the last one struck something",
-        Refusal::ScratchTooShort => "the scratch has too few places for both silent reaches",
-        Refusal::UnlistedVariant => "the candidate holds a variant that is not listed",
+        self as u8
     }
 }
 
 impl fmt::Display for Refusal {
     fn fmt<W: fmt::Write>(&self, f: &mut fmt::Formatter<W>) -> fmt::Result {
-        let why = reason(*self);
+        let why = match self {
+            Refusal::StatesOutOfRange => "a family has 1 to 64 states",
+            Refusal::StartOutOfRange => "the start is not one of the states",
+            Refusal::OtherFamilies => "a family differs from its side in its states or its start",
+            Refusal::NoSuchState => "there is no such state",
+            Refusal::NoRoomForStep => "there is no room for one more step",
+            Refusal::KindTooLarge => "the kind has more than 1,024 variants",
+            Refusal::TableTooShort => "the table has fewer places than there are pairs of states",
+            Refusal::NoSuchVariant => "there is no such variant",
+            Refusal::NotSettled => "no sweep was made, or the last one struck something",
+            Refusal::ScratchTooShort => "the scratch has too few places for both silent reaches",
+            Refusal::UnlistedVariant => "the candidate holds a variant that is not listed",
+        };
         write!(f, "refused by number {}: {why}", self.number())
     }
 }

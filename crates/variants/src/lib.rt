@@ -9,6 +9,9 @@ mod singles;
 
 pub use singles::Single;
 
+// `only`, `has` and `least` look at the numbers below this one; `count` and `size` answer one more for anything above it.
+pub const LIMIT: u32 = 1024;
+
 // A set of a kind of variants; a kind numbers its variants from 0.
 pub trait VariantSet: Copy {
     // How many variants the kind has.
@@ -61,7 +64,9 @@ pub trait VariantSet: Copy {
     fn least(self) -> Option<u32>
         ensures { Least (holds self) result };
 
+    // Law: a kind has at least one variant.
     ghost inhabited: { 0 < variants };
 
+    // Law: a set holds only numbers that its kind has.
     ghost within: { (x : Self) (v : ℕ) → holds x v ≡ true → v < variants };
 }

@@ -5,7 +5,7 @@ ghost use Rattle.std.proofs.Common.{rules};
 use crate::VariantSet;
 
 // A set of the one variant, number 0: held or not.
-#[derive(Clone, Copy)]
+#[derive(Clone, Copy, Debug, Default, PartialEq, Eq)]
 pub struct Single {
     pub held: bool,
 }
@@ -19,31 +19,31 @@ impl VariantSet for Single {
 
     ghost within = { Prim.search rules };
 
-    fn none() -> Single {
+    fn none() -> Self {
         Single { held: false }
     }
 
-    fn all() -> Single {
+    fn all() -> Self {
         Single { held: true }
     }
 
-    fn only(v: u32) -> Single {
+    fn only(v: u32) -> Self {
         Single { held: v == 0 }
     }
 
-    fn both(self, other: Single) -> Single {
+    fn both(self, other: Self) -> Self {
         Single {
             held: self.held & other.held,
         }
     }
 
-    fn either(self, other: Single) -> Single {
+    fn either(self, other: Self) -> Self {
         Single {
             held: self.held | other.held,
         }
     }
 
-    fn without(self, other: Single) -> Single {
+    fn without(self, other: Self) -> Self {
         Single {
             held: self.held & !other.held,
         }
@@ -53,12 +53,13 @@ impl VariantSet for Single {
         v == 0 && self.held
     }
 
-    fn same(self, other: Single) -> bool {
-        self.held == other.held
+    fn same(self, other: Self) -> bool {
+        self == other
     }
 
+    #[tactic(auto, unfolding(theory::specs::Sets::card))]
     fn count(self) -> u32 {
-        if self.held { 1 } else { 0 }
+        u32::from(self.held)
     }
 
     fn size() -> u32 {
@@ -66,6 +67,6 @@ impl VariantSet for Single {
     }
 
     fn least(self) -> Option<u32> {
-        if self.held { Some(0) } else { None }
+        self.held.then_some(0)
     }
 }

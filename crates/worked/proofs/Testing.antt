@@ -1,8 +1,10 @@
 -- Whether steps are followed, as a test that computes, for families in which no silent step comes after another.
-use Rattle.std.proofs.Common.{◌≡◌, ℕ, zero, suc, ◌<◌, Bool, true, false, not, ◌&&◌, ◌||◌, eqb, ltb, List, [], ◌∷◌, Decides, sym, refl, subst, subst₂, inl, inr, arith}
+use Rattle.std.proofs.Common.{◌≡◌, ℕ, zero, suc, ◌<◌, Bool, true, false, not, ◌&&◌, ◌||◌, eqb, ltb, List, [], ◌∷◌, Decides, sym, refl, subst, subst₂, inl, inr}
 use mathlib.Core.List.Memᴰ
 use mathlib.Core.List.{Memᴰ}
-use Rattle.std.proofs.lemmas.Bool.{and_parts, and_from, or_cases, or_left, eqb-true, eq-eqb, ltb-true, cases_eq, both_ways, not-true}
+use Rattle.std.proofs.lemmas.Bool.{and_parts, and_from, or_cases, or_left, eqb-true, eq-eqb, ltb-true, both_ways, not-true}
+use Rattle.std.proofs.lemmas.Bool.Decides.{Decides-below_and}
+use Rattle.std.specs.List.{list_all}
 use Rattle.theory.specs.Sets.{Variants}
 use Rattle.theory.specs.Systems.{Step, Family, machine, Goes, silence}
 use Rattle.theory.specs.Tables.{Table}
@@ -17,24 +19,16 @@ use Rattle.worked.specs.Words.{set_of, Entry, holding}
 -- every number below n passes
 abbrev pub all_below : ℕ → (ℕ → Bool) → Bool
 all_below zero f = true
-all_below (suc n) f = all_below n f && f n
+all_below (suc n) f = f n && all_below n f
 
 pub below_out : (n : ℕ) (f : ℕ → Bool) → all_below n f ≡ true → (k : ℕ) → k < n → f k ≡ true
-below_out zero f e k l = absurd (omega arith)
-below_out (suc n) f e k l = elim (cases_eq k n) [
-  | inl p ↦ subst (λ (i : ℕ). f i ≡ true) (sym p) (and_parts _ _ e).1
-  | inr p ↦ below_out n f (and_parts _ _ e).0 k (omega arith)
-]
+below_out n f = (Decides-below_and f (λ k. f k ≡ true) (λ m. all_below m f) (λ k. (λ e. e, λ e. e)) refl (λ m. refl) n).0
 
--- every step passes
-abbrev all_steps : List Step → (Step → Bool) → Bool
-all_steps [] f = true
-all_steps (x ∷ xs) f = f x && all_steps xs f
-
-steps_out : (xs : List Step) (f : Step → Bool) → all_steps xs f ≡ true → {x : Step} → Memᴰ x xs → f x ≡ true
-steps_out [] f e m = absurd (Memᴰ.not-nil m)
-steps_out (y ∷ ys) f e (Memᴰ.head p) = subst (λ (z : Step). f z ≡ true) (sym p) (and_parts _ _ e).0
-steps_out (y ∷ ys) f e (Memᴰ.tail m) = steps_out ys f (and_parts _ _ e).1 m
+-- each element of a list passes
+all_out : {X : Type 0} (f : X → Bool) (xs : List X) → list_all f xs ≡ true → {x : X} → Memᴰ x xs → f x ≡ true
+all_out f [] e m = absurd (Memᴰ.not-nil m)
+all_out f (y ∷ ys) e (Memᴰ.head p) = subst (λ z. f z ≡ true) (sym p) (and_parts _ _ e).0
+all_out f (y ∷ ys) e (Memᴰ.tail m) = all_out f ys (and_parts _ _ e).1 m
 
 -- some step is a silent one from t to r that holds v
 abbrev steps_silently : List Step → ℕ → ℕ → ℕ → Bool
@@ -54,15 +48,10 @@ silently_out v (x ∷ xs) t r e = elim (or_cases _ _ e) [
 silently_out v [] t r e = absurd (both_ways false refl e)
 
 -- a candidate has sets at n by m pairs only, of variants below V
-abbrev numbers_below : ℕ → List ℕ → Bool
-numbers_below V [] = true
-numbers_below V (x ∷ xs) = ltb x V && numbers_below V xs
-
 abbrev pub bounded_by : (n m V : ℕ) → List Entry → Bool
-bounded_by n m V [] = true
-bounded_by n m V (e ∷ es) = ((ltb e.left n && ltb e.right m) && numbers_below V e.set) && bounded_by n m V es
+bounded_by n m V = list_all (λ e. (ltb e.left n && ltb e.right m) && list_all (λ x. ltb x V) e.set)
 
-numbers_out : (V : ℕ) (xs : List ℕ) (v : ℕ) → numbers_below V xs ≡ true → set_of xs v ≡ true → v < V
+numbers_out : (V : ℕ) (xs : List ℕ) (v : ℕ) → list_all (λ x. ltb x V) xs ≡ true → set_of xs v ≡ true → v < V
 numbers_out V [] v b e = absurd (both_ways false refl e)
 numbers_out V (x ∷ xs) v b e = elim (or_cases _ _ e) [
   | inl h ↦ subst (λ (i : ℕ). i < V) (sym (eqb-true _ _ h)) (ltb-true _ _ (and_parts _ _ b).0)
@@ -92,16 +81,16 @@ module _ (V : ℕ) (F : Family) where
   -- one silent step is as far as they go
   abbrev pub soon_silent : ℕ → Bool
   soon_silent t =
-      all_steps F.steps (λ x. all_below V (λ v. not (eqb x.action silence && (x.held v && one_silent t x.from v)) || one_silent t x.to v))
+      list_all (λ x. all_below V (λ v. not (eqb x.action silence && (x.held v && one_silent t x.from v)) || one_silent t x.to v)) F.steps
 
   abbrev pub between : Bool
-  between = all_steps F.steps (λ x. ltb x.from F.states && ltb x.to F.states)
+  between = list_all (λ x. ltb x.from F.states && ltb x.to F.states) F.steps
 
   reach_in : (v t : ℕ) → soon_silent t ≡ true → v < V → {r : ℕ} → Silently (machine F v) t r → one_silent t r v ≡ true
   reach_in v t e l stays = or_left _ _ (eq-eqb t t refl)
   reach_in v t e l (goes {r = q} {s' = r} p g) =
       let m = goes_step v q silence r F.steps g in
-      let h = below_out V _ (steps_out F.steps _ e m.listed) v l in
+      let h = below_out V _ (all_out _ F.steps e m.listed) v l in
       let before = reach_in v t e l p in
       let leaves : one_silent t m.step.from v ≡ true = subst (λ (i : ℕ). one_silent t i v ≡ true) (sym m.leaves) before in
       elim (or_cases _ _ h) [
@@ -122,7 +111,7 @@ module _ (V : ℕ) (F : Family) where
   reach_row t e r v _ l = (reach_out t r v, reach_in v t e l)
 
   between_out : between ≡ true → BetweenStates F
-  between_out e x m = let p = and_parts _ _ (steps_out F.steps _ e m) in (ltb-true _ _ p.0, ltb-true _ _ p.1)
+  between_out e x m = let p = and_parts _ _ (all_out _ F.steps e m) in (ltb-true _ _ p.0, ltb-true _ _ p.1)
 
   -- where t is one of the states, the silent steps are such, and H has variants below V only
   module _ (t : ℕ) (lt : ltb t F.states ≡ true) (inside : between ≡ true) (soon : soon_silent t ≡ true) (H : Table) (s : ℕ) (kind : (v : ℕ) → H s t v ≡ true → v < V) where
@@ -134,12 +123,12 @@ module _ (V : ℕ) (F : Family) where
 
     -- every step that is due is followed
     abbrev pub all_are_followed : List Step → Bool
-    all_are_followed xs = all_steps xs (λ x. all_below V (λ v. not (eqb x.from s && (x.held v && H s t v)) || is_followed x v))
+    all_are_followed = list_all (λ x. all_below V (λ v. not (eqb x.from s && (x.held v && H s t v)) || is_followed x v))
 
     pub all_followed : (xs : List Step) → all_are_followed xs ≡ true → AllFollowed F H s t xs
     all_followed xs e j x l at v due =
         let lv = kind v due.2 in
-        let h = below_out V _ (steps_out xs _ e (mem_of_at at)) v lv in
+        let h = below_out V _ (all_out _ xs e (mem_of_at at)) v lv in
         elim (or_cases _ _ h) [
           | inl n ↦ absurd (both_ways _ (not-true _ n) (and_from _ _ (eq-eqb _ _ due.0) (and_from _ _ due.1 due.2)))
           | inr y ↦ (decided x v lv).0 y

@@ -1,5 +1,0 @@
-use Rattle.masks.proofs.Words.{word_all}
-use Rattle.masks.proofs.MaskVariantSet.all.Goals as goal
-
-pub returns : goal.returns
-returns c = word_all
