@@ -1,32 +1,26 @@
 #![tactic(auto)]
 
 // Following: in which variants a step of one side is followed by the other side, from a pair of states.
-ghost use Rattle.std.specs.Prelude.{◌≡◌, ℕ, ◌&&◌};
-ghost use Rattle.theory.specs.Judgements.{by_way_of, some_below};
-ghost use Rattle.families.specs.Models.{step_of};
-ghost use Rattle.families.specs.Drafts.{model};
-ghost use Rattle.tables.specs.Cells.{cell};
-ghost use Rattle.following.specs.Views.{seen, Lacks};
+ghost use Rattle.std.specs.Prelude.{◌≡◌, ℕ};
+ghost use Rattle.following.specs.Views.{seen, ways, followed_by, Lacks};
 
 use answering::{Partners, answered};
 use families::{Family, Step};
-use tables::{nth, row_of};
+use tables::{Grid, nth};
 use variants::VariantSet;
 
 // The side whose steps are to be followed.
-#[derive(Clone, Copy)]
+#[derive(Clone, Copy, Debug, PartialEq, Eq)]
 pub enum Side {
     Left,
     Right,
 }
 
 // A table of pairs as one side sees it: its own state first.
-#[derive(Drop)]
+#[derive(Clone, Copy)]
 pub struct View<'h, S> {
     pub side: Side,
-    pub rows: u8,
-    pub cols: u8,
-    pub cells: &'h [S],
+    pub grid: Grid<'h, S>,
 }
 
 impl<'h, S: VariantSet> View<'h, S> {
@@ -35,86 +29,80 @@ impl<'h, S: VariantSet> View<'h, S> {
         ensures { (v : ℕ) → S.VariantSet.holds result v ≡ seen S.VariantSet self.now own other v }
     {
         match self.side {
-            Side::Left => nth(row_of(self.rows, self.cols, self.cells, own), other),
-            Side::Right => nth(row_of(self.rows, self.cols, self.cells, other), own),
+            Side::Left => self.grid.at(own, other),
+            Side::Right => self.grid.at(other, own),
         }
     }
 }
 
 // The states of the other side that are paired with `own`.
 #[derive(Drop)]
-struct PairedWith<'v, 'h, S> {
-    view: &'v View<'h, S>,
+struct PairedWith<'h, S> {
+    view: View<'h, S>,
     own: u8,
 }
 
-impl<'v, 'h, S: VariantSet> Partners<S> for PairedWith<'v, 'h, S> {
-    ghost paired = { λ p t v. seen S.VariantSet p.view.now p.own t v };
+impl<'h, S: VariantSet> Partners<S> for PairedWith<'h, S> {
+    ghost paired = { λ p t v. seen S.VariantSet p.view p.own t v };
 
     fn with(&self, state: u8) -> S {
         self.view.at(self.own, state)
     }
 }
 
-// The variants in which the step is followed by way of `r`: `r` is reached and still paired with `own`, and
-// from there the same action leads to a state paired with what the step enters, or nothing is needed since
-// the step is silent.
-fn by_way_of<S: VariantSet>(
-    view: &View<S>,
-    step: Step<S>,
-    follower: &Family<S>,
-    row: &[S],
-    own: u8,
-    r: u8,
-) -> S
-    ensures { (v : ℕ) → S.VariantSet.holds result v ≡ by_way_of (model S.VariantSet follower.now).steps (cell S.VariantSet row.now) (seen S.VariantSet view.now) own (step_of S.VariantSet step) v r }
-{
-    let still = nth(row, r).both(view.at(own, r));
-    if still.same(S::none()) {
-        return still;
-    }
-    let entered = PairedWith { view, own: step.to };
-    let answers = answered(step, follower, &entered, r);
-    if step.action == 0 {
-        still.both(answers.either(view.at(step.to, r)))
-    } else {
-        still.both(answers)
-    }
+// A pair of states as one side sees it, whose steps the other side is to follow: `own` is the side's state and
+// `other` the follower's, and `reach` is the follower's silent reach from `other`.
+#[derive(Drop)]
+pub struct Position<'p, S> {
+    pub view: View<'p, S>,
+    pub own: u8,
+    pub other: u8,
+    pub follower: &'p Family<'p, S>,
+    pub reach: &'p [S],
 }
 
-// The variants in which the step is followed by way of some state.
-fn followed<S: VariantSet>(
-    view: &View<S>,
-    step: Step<S>,
-    follower: &Family<S>,
-    row: &[S],
-    own: u8,
-) -> S
-    ensures { (v : ℕ) → S.VariantSet.holds result v ≡ some_below (model S.VariantSet follower.now).states (by_way_of (model S.VariantSet follower.now).steps (cell S.VariantSet row.now) (seen S.VariantSet view.now) own (step_of S.VariantSet step) v) }
-{
-    let mut found = S::none();
-    for r in 0..follower.states() {
-        found = found.either(by_way_of(view, step, follower, row, own, r));
+impl<'p, S: VariantSet> Position<'p, S> {
+    // The variants in which the step is followed by way of `r`: `r` is reached and still paired with `own`, and
+    // from there the same action leads to a state paired with what the step enters, or nothing is needed since
+    // the step is silent.
+    fn by_way_of(&self, step: Step<S>, r: u8) -> S
+        ensures { (v : ℕ) → S.VariantSet.holds result v ≡ ways S.VariantSet self.now step v r }
+    {
+        let still = nth(self.reach, r).both(self.view.at(self.own, r));
+        if still.same(S::none()) {
+            return still;
+        }
+        let entered = PairedWith {
+            view: self.view,
+            own: step.to,
+        };
+        let answers = answered(step, self.follower, &entered, r);
+        if step.action == 0 {
+            still.both(answers.either(self.view.at(step.to, r)))
+        } else {
+            still.both(answers)
+        }
     }
-    found
-}
 
-// The least variant in which the step leaves `own`, is held at the pair and not followed, where `row` is the
-// follower's silent reach from `other`.
-pub fn lacking<S: VariantSet>(
-    view: &View<S>,
-    step: Step<S>,
-    follower: &Family<S>,
-    row: &[S],
-    own: u8,
-    other: u8,
-) -> Option<u32>
-    ensures { Lacks S.VariantSet view.now step follower.now row.now own other result }
-{
-    if step.from != own {
-        return None;
+    // The variants in which the step is followed by way of some state.
+    fn followed(&self, step: Step<S>) -> S
+        ensures { (v : ℕ) → S.VariantSet.holds result v ≡ followed_by S.VariantSet self.now step v }
+    {
+        let mut found = S::none();
+        for r in 0..self.follower.states() {
+            found = found.either(self.by_way_of(step, r));
+        }
+        found
     }
-    let due = view.at(own, other).both(step.set);
-    due.without(followed(view, step, follower, row, own))
-        .least()
+
+    // The least variant in which the step leaves `own`, is held at the pair and not followed.
+    pub fn lacking(&self, step: Step<S>) -> Option<u32>
+        ensures { Lacks S.VariantSet self.now step result }
+    {
+        if step.from != self.own {
+            return None;
+        }
+        let due = self.view.at(self.own, self.other).both(step.set);
+        due.without(self.followed(step)).least()
+    }
 }

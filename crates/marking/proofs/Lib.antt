@@ -4,3 +4,4 @@ pub mod Walks
 pub mod Starts
 pub mod Scratch
 pub mod Candidates
+pub mod Readings

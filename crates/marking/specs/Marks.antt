@@ -11,8 +11,7 @@ use Rattle.families.specs.declared.Family.{Family}
 use Rattle.families.specs.Drafts.{model}
 use Rattle.tables.specs.Cells.{cell}
 use Rattle.reaching.specs.Reaches.{reach_places, reach_of}
-use Rattle.marking.specs.declared.Marked.{Marked}
-use Rattle.marking.specs.Faults.{marked_answer}
+use Rattle.marking.specs.Faults.{Marked, marked_answer}
 use Rattle.marking.specs.Judgements.{pairs_of}
 
 -- every set in the memory holds listed variants only

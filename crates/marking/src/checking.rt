@@ -1,10 +1,9 @@
 // Marking, refusals first.
 ghost use Rattle.std.specs.Prelude.{◌≡◌, ℕ, ◌≤◌, true, length, Decides, MatchResult};
 ghost use Rattle.refusals.specs.Numbers.{number_of};
-ghost use Rattle.marking.specs.Marks.{OnlyListed, both_places, Markable, Refused, ReachedBoth, Marks, Refuses};
+ghost use Rattle.marking.specs.Marks.{OnlyListed, pairs, both_places, Markable, Refused, ReachedBoth, Marks, Refuses};
 
-use crate::Marked;
-use crate::judging::judge;
+use crate::{Marked, Marking};
 use families::Family;
 use reaching::{places, reach};
 use refusals::Refusal;
@@ -21,12 +20,21 @@ fn is_listed<S: VariantSet>(set: S, list: S) -> bool
 fn only_listed<S: VariantSet>(cells: &[S], list: S) -> bool
     ensures { Decides result (OnlyListed S.VariantSet list cells.now) }
 {
-    for set in cells {
-        if !is_listed(*set, list) {
-            return false;
-        }
-    }
-    true
+    cells.iter().all(|set| is_listed(*set, list))
+}
+
+// How many pairs of states there are.
+fn pairs<S: VariantSet>(left: &Family<S>, right: &Family<S>) -> usize
+    ensures { result ≡ pairs S.VariantSet left.now right.now }
+{
+    usize::from(left.states()) * usize::from(right.states())
+}
+
+// How many places both reaches take.
+fn both_places<S: VariantSet>(left: &Family<S>, right: &Family<S>) -> usize
+    ensures { result ≡ both_places S.VariantSet left.now right.now }
+{
+    places(left) + places(right)
 }
 
 // Whether marking takes what it is brought, with a scratch of so many places.
@@ -42,11 +50,11 @@ fn can_mark<S: VariantSet>(
     if S::size() == 1025 {
         return Err(Refusal::KindTooLarge);
     }
-    let pairs = left.states() as usize * right.states() as usize;
+    let pairs = pairs(left, right);
     if candidate.len() < pairs {
         return Err(Refusal::TableTooShort);
     }
-    if scratch < places(left) + places(right) {
+    if scratch < both_places(left, right) {
         return Err(Refusal::ScratchTooShort);
     }
     if !only_listed(&candidate[..pairs], list) {
@@ -85,5 +93,6 @@ pub fn mark<S: VariantSet>(
     reach_both(left, right, scratch)?;
     let reach: &[S] = &*scratch;
     let right_reach = &reach[places(left)..];
-    Ok(judge(left, right, list, candidate, reach, right_reach))
+    let marking = Marking::new(left, right, candidate, reach, right_reach);
+    Ok(marking.judge(list))
 }

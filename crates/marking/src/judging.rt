@@ -1,13 +1,16 @@
 // The first fault of a candidate.
 ghost use Rattle.std.specs.Prelude.{◌≡◌, [], ◌∷◌};
 ghost use Rattle.theory.specs.Answers.{granted};
+ghost use Rattle.theory.specs.Marks.{mover};
+ghost use Rattle.families.specs.Drafts.{model};
+ghost use Rattle.following.specs.Views.{side_of};
 ghost use Rattle.marking.specs.Faults.{rule_number, fault_answer};
-ghost use Rattle.marking.specs.Judgements.{JudgesSteps, JudgesPair, JudgesPairs, JudgesStarts, Judges};
+ghost use Rattle.marking.specs.Judgements.{left_of, right_of, Reads, Stands, JudgesSteps, JudgesSide, JudgesPair, JudgesPairs, JudgesStarts, Judges};
 
-use crate::{Fault, Marked, Rule};
+use crate::{Fault, Marked, Marking, Rule};
 use families::Family;
-use following::{Side, View, lacking};
-use tables::{nth, row_of};
+use following::{Position, Side, View};
+use tables::Grid;
 use variants::VariantSet;
 
 // A step that is not followed: its place in the list, and the least variant in which it is not.
@@ -15,29 +18,6 @@ use variants::VariantSet;
 pub struct Lapse {
     pub(crate) step: usize,
     pub(crate) variant: u32,
-}
-
-// The first step of the mover that is not followed from the pair.
-fn unfollowed<S: VariantSet>(
-    view: &View<S>,
-    mover: &Family<S>,
-    follower: &Family<S>,
-    row: &[S],
-    own: u8,
-    other: u8,
-) -> Option<Lapse>
-    ensures { JudgesSteps S.VariantSet view.now mover.now follower.now row.now own other result }
-{
-    let steps = mover.steps();
-    let mut next = mover.first_from(own);
-    while let Some(step) = next {
-        let Some(variant) = lacking(view, steps[step], follower, row, own, other) else {
-            next = mover.next_from(step);
-            continue;
-        };
-        return Some(Lapse { step, variant });
-    }
-    None
 }
 
 impl Lapse {
@@ -55,103 +35,148 @@ impl Lapse {
     }
 }
 
-// The first fault at the pair, where the rows are the silent reach from its two states.
-fn pair<S: VariantSet>(
-    left: &Family<S>,
-    right: &Family<S>,
-    candidate: &[S],
-    left_row: &[S],
-    right_row: &[S],
-    s: u8,
-    t: u8,
-) -> Option<Fault>
-    ensures { JudgesPair S.VariantSet left.now right.now candidate.now left_row.now right_row.now s t result }
+// The first step of the mover that is not followed from the position.
+#[tactic(auto, using(crate::proofs::Steps::none_yet))]
+fn unfollowed<S: VariantSet>(position: &Position<S>, mover: &Family<S>) -> Option<Lapse>
+    ensures { JudgesSteps S.VariantSet position.now mover.now result }
 {
-    let rows = left.states();
-    let cols = right.states();
-    let ahead = View {
-        side: Side::Left,
-        rows,
-        cols,
-        cells: candidate,
-    };
-    if let Some(lapse) = unfollowed(&ahead, left, right, right_row, s, t) {
-        return Some(lapse.fault(Rule::Left, s, t));
-    }
-    let back = View {
-        side: Side::Right,
-        rows,
-        cols,
-        cells: candidate,
-    };
-    let Some(lapse) = unfollowed(&back, right, left, left_row, t, s) else {
-        return None;
-    };
-    Some(lapse.fault(Rule::Right, s, t))
-}
-
-// The first fault at any pair.
-fn walk<S: VariantSet>(
-    left: &Family<S>,
-    right: &Family<S>,
-    candidate: &[S],
-    left_reach: &[S],
-    right_reach: &[S],
-) -> Option<Fault>
-    ensures { JudgesPairs S.VariantSet left.now right.now candidate.now left_reach.now right_reach.now result }
-{
-    let rows = left.states();
-    let cols = right.states();
-    let mut found = None;
-    'search: for s in 0..rows {
-        let left_row = row_of(rows, rows, left_reach, s);
-        for t in 0..cols {
-            let right_row = row_of(cols, cols, right_reach, t);
-            found = pair(left, right, candidate, left_row, right_row, s, t);
-            if found.is_some() {
-                break 'search;
-            }
+    for (place, step) in mover.steps_from(position.own) {
+        if let Some(variant) = position.lacking(step) {
+            return Some(Lapse {
+                step: place,
+                variant,
+            });
         }
     }
-    found
+    None
 }
 
-// The least listed variant that the pair of starts lacks.
-fn unpaired_start<S: VariantSet>(
-    left: &Family<S>,
-    right: &Family<S>,
-    list: S,
-    candidate: &[S],
-) -> Option<u32>
-    ensures { JudgesStarts S.VariantSet left.now right.now candidate.now list result }
-{
-    let row = row_of(left.states(), right.states(), candidate, left.start());
-    let starts = nth(row, right.start());
-    list.without(starts).least()
-}
-
-// The start rule first, then every pair.
-pub(crate) fn judge<S: VariantSet>(
-    left: &Family<S>,
-    right: &Family<S>,
-    list: S,
-    candidate: &[S],
-    left_reach: &[S],
-    right_reach: &[S],
-) -> Marked
-    ensures { Judges S.VariantSet left.now right.now candidate.now list left_reach.now right_reach.now result }
-{
-    if let Some(variant) = unpaired_start(left, right, list, candidate) {
-        return Marked::Faulty(Fault {
-            rule: Rule::Start,
-            left: left.start(),
-            right: right.start(),
-            step: 0,
-            variant,
-        });
+impl<'m, S: VariantSet> Marking<'m, S> {
+    // The sets in memory as a candidate and as both reaches, row by row.
+    pub(crate) fn new(
+        left: &'m Family<'m, S>,
+        right: &'m Family<'m, S>,
+        candidate: &'m [S],
+        left_reach: &'m [S],
+        right_reach: &'m [S],
+    ) -> Marking<'m, S>
+        ensures { Reads S.VariantSet result left.now right.now candidate.now left_reach.now right_reach.now }
+    {
+        let rows = left.states();
+        let cols = right.states();
+        Marking {
+            left,
+            right,
+            candidate: Grid {
+                rows,
+                cols,
+                cells: candidate,
+            },
+            left_reach: Grid {
+                rows,
+                cols: rows,
+                cells: left_reach,
+            },
+            right_reach: Grid {
+                rows: cols,
+                cols,
+                cells: right_reach,
+            },
+        }
     }
-    match walk(left, right, candidate, left_reach, right_reach) {
-        Some(fault) => Marked::Faulty(fault),
-        None => Marked::Accepted,
+
+    // Where a side stands at the pair of `s` and `t`.
+    fn position(&self, side: Side, s: u8, t: u8) -> Position<S>
+        ensures { Stands S.VariantSet self.now (side_of side) s t result }
+    {
+        let view = View {
+            side,
+            grid: self.candidate,
+        };
+        match side {
+            Side::Left => Position {
+                view,
+                own: s,
+                other: t,
+                follower: self.right,
+                reach: self.right_reach.row(t),
+            },
+            Side::Right => Position {
+                view,
+                own: t,
+                other: s,
+                follower: self.left,
+                reach: self.left_reach.row(s),
+            },
+        }
+    }
+
+    // The family whose steps are to be followed.
+    fn mover(&self, side: Side) -> &Family<S>
+        ensures { model S.VariantSet result.now ≡ mover (side_of side) (left_of S.VariantSet self.now) (right_of S.VariantSet self.now) }
+    {
+        match side {
+            Side::Left => self.left,
+            Side::Right => self.right,
+        }
+    }
+
+    // The first fault of a side's steps at the pair.
+    fn side(&self, side: Side, s: u8, t: u8) -> Marked
+        ensures { JudgesSide S.VariantSet self.now (side_of side) s t result }
+    {
+        match unfollowed(&self.position(side, s, t), self.mover(side)) {
+            Some(lapse) => Err(lapse.fault(Rule::from(side), s, t)),
+            None => Ok(()),
+        }
+    }
+
+    // The first fault at the pair.
+    fn pair(&self, s: u8, t: u8) -> Marked
+        ensures { JudgesPair S.VariantSet self.now s t result }
+    {
+        self.side(Side::Left, s, t)?;
+        self.side(Side::Right, s, t)
+    }
+
+    // The first fault at any pair.
+    #[tactic(auto, using(crate::proofs::Walks::clear_row))]
+    fn walk(&self) -> Marked
+        ensures { JudgesPairs S.VariantSet self.now result }
+    {
+        for s in 0..self.left.states() {
+            for t in 0..self.right.states() {
+                self.pair(s, t)?;
+            }
+        }
+        Ok(())
+    }
+
+    // The fault of the pair of starts, at the least listed variant that it lacks.
+    fn starts(&self, list: S) -> Marked
+        ensures { JudgesStarts S.VariantSet self.now list result }
+    {
+        let left = self.left.start();
+        let right = self.right.start();
+        let paired = self.candidate.at(left, right);
+        match list.without(paired).least() {
+            Some(variant) => Err(Fault {
+                rule: Rule::Start,
+                left,
+                right,
+                step: 0,
+                variant,
+            }),
+            None => Ok(()),
+        }
+    }
+
+    // The start rule first, then every pair.
+    #[tactic(auto, using(crate::proofs::Walks::found_all))]
+    pub(crate) fn judge(&self, list: S) -> Marked
+        ensures { Judges S.VariantSet self.now list result }
+    {
+        self.starts(list)?;
+        self.walk()
     }
 }
