@@ -1,7 +1,7 @@
 // Sizes at their limits.
 use crate::shown::Granted;
-use crate::swept::BLANK;
-use families::{Draft, can_open};
+use families::{Draft, Step, can_open};
+use masks::Mask;
 
 // How many states a family has.
 pub(crate) fn states(rt: &HostRuntime) -> anyhow::Result<()> {
@@ -16,16 +16,17 @@ pub(crate) fn states(rt: &HostRuntime) -> anyhow::Result<()> {
 
 // How many steps it holds, with memory enough.
 pub(crate) fn steps(rt: &HostRuntime) -> anyhow::Result<()> {
-    let mut memory = vec![in rt.alloc(); BLANK; 1100]?;
+    let step = Step::<Mask>::default();
+    let mut memory = vec![in rt.alloc(); step; 1100]?;
     can_open(1, 0)?;
     let mut draft = Draft::open(1, 0, &mut memory);
     for _ in 0..1023 {
-        draft.step(BLANK)?;
+        draft.step(step)?;
     }
     println!(rt;
         "12: step 1024: {}, step 1025: {}",
-        Granted(draft.step(BLANK)),
-        Granted(draft.step(BLANK))
+        Granted(draft.step(step)),
+        Granted(draft.step(step))
     )?;
     Ok(())
 }

@@ -1,11 +1,9 @@
 // The candidates that are marked.
-use crate::shown::Mark;
-use crate::swept::{BLANK, LIST, Side, fill, plain};
-use families::{Draft, Step, can_open};
-use lines::{second_left, second_right};
-use marking::{Marked, mark};
+use crate::swept::LIST;
+use families::{Family, Step};
+use lines::{family_of, second_left, second_right};
+use marking::mark;
 use masks::Mask;
-use variants::VariantSet;
 
 const NONE: Mask = Mask { bits: 0 };
 
@@ -15,53 +13,46 @@ const FIRST: Mask = Mask { bits: 0b01 };
 
 const SECOND: Mask = Mask { bits: 0b10 };
 
-// Marks the candidate for the two sides and the list.
-fn marked(
+// Marks the candidate for the two families and the list, and prints the answer.
+fn show(
     rt: &HostRuntime,
-    left: Side,
-    right: Side,
+    case: &str,
+    left: &Family<Mask>,
+    right: &Family<Mask>,
     list: Mask,
     candidate: &[Mask],
-) -> anyhow::Result<Marked> {
-    let heap = rt.alloc();
-    let mut left_memory = vec![in heap; BLANK; 4]?;
-    let mut right_memory = vec![in heap; BLANK; 4]?;
-    let mut scratch = vec![in heap; NONE; 64]?;
-    can_open(left.states, 0)?;
-    let mut draft = Draft::open(left.states, 0, &mut left_memory);
-    fill(&mut draft, left)?;
-    let left = draft.close();
-    can_open(right.states, 0)?;
-    let mut draft = Draft::open(right.states, 0, &mut right_memory);
-    fill(&mut draft, right)?;
-    let right = draft.close();
-    Ok(mark(&left, &right, list, candidate, &mut scratch)?)
+) -> anyhow::Result<()> {
+    let mut scratch = [NONE; 64];
+    match mark(left, right, list, candidate, &mut scratch)? {
+        Ok(()) => println!(rt; "{case}: accepted")?,
+        Err(fault) => println!(rt; "{case}: {fault}")?,
+    }
+    Ok(())
 }
 
-// The second line, with the set that the pair (0, 1) has.
+// The second line, with a candidate.
 fn second_line(rt: &HostRuntime, case: &str, list: Mask, candidate: &[Mask]) -> anyhow::Result<()> {
-    let left = second_left();
-    let right = second_right();
-    let marked = marked(rt, plain(2, &left), plain(3, &right), list, candidate)?;
-    println!(rt; "{case}: {}", Mark(marked))?;
-    Ok(())
+    let mut left_memory = [Step::default(); 1];
+    let mut right_memory = [Step::default(); 3];
+    let left = family_of(2, &second_left(), &mut left_memory)?;
+    let right = family_of(3, &second_right(), &mut right_memory)?;
+    show(rt, case, &left, &right, list, candidate)
 }
 
 // Two silent steps before action 1 on the right, the first in variant 0 only and the second in variant 1 only:
 // they are no path for either.
 fn broken_path(rt: &HostRuntime) -> anyhow::Result<()> {
-    let left = second_left();
-    let right = [
+    let steps = [
         Step {
             to: 1,
             set: FIRST,
-            ..BLANK
+            ..Step::default()
         },
         Step {
             from: 1,
             to: 2,
             set: SECOND,
-            ..BLANK
+            ..Step::default()
         },
         Step {
             from: 2,
@@ -70,10 +61,12 @@ fn broken_path(rt: &HostRuntime) -> anyhow::Result<()> {
             set: BOTH,
         },
     ];
+    let mut left_memory = [Step::default(); 1];
+    let mut right_memory = [Step::default(); 3];
+    let left = family_of(2, &second_left(), &mut left_memory)?;
+    let right = family_of(4, &steps, &mut right_memory)?;
     let candidate = [BOTH, BOTH, BOTH, NONE, NONE, NONE, NONE, BOTH];
-    let marked = marked(rt, plain(2, &left), plain(4, &right), LIST, &candidate)?;
-    println!(rt; "broken path: {}", Mark(marked))?;
-    Ok(())
+    show(rt, "broken path", &left, &right, LIST, &candidate)
 }
 
 pub(crate) fn run(rt: &HostRuntime) -> anyhow::Result<()> {

@@ -1,12 +1,10 @@
 // A comparison that is stepped through, request by request.
-use crate::shown::{Granted, Numbers};
-use crate::swept::{BLANK, LIST, fill, plain};
+use crate::swept::LIST;
 use comparing::{Comparison, can_begin};
-use families::{Draft, can_open};
+use families::Step;
 use histories::{Reply, Request, Stage, Turn, play};
-use lines::{first_left, first_right};
+use lines::{family_of, first_left, first_right};
 use masks::Mask;
-use variants::VariantSet;
 
 const REQUESTS: [Request; 9] = [
     Request::Settle,
@@ -23,44 +21,33 @@ const REQUESTS: [Request; 9] = [
 // What a request was answered.
 fn show(rt: &HostRuntime, reply: Reply<Mask>) -> anyhow::Result<()> {
     match reply {
-        Reply::Refused(refusal) => println!(rt; "  {}", Granted(Err(refusal)))?,
+        Reply::Refused(refusal) => println!(rt; "  refused by {}", refusal.number())?,
         Reply::Struck(strikes) => println!(rt; "  sweep: {strikes} struck")?,
         Reply::Ran { sweeps, strikes } => println!(rt; "  run: {sweeps} sweeps, {strikes} struck")?,
         Reply::Stands(stands) => println!(rt; "  ask: {stands}")?,
         Reply::Settled => println!(rt; "  settled")?,
-        Reply::Verdict(set) => println!(rt; "  verdict {}", Numbers(set))?,
+        Reply::Verdict(set) => println!(rt; "  verdict {set}")?,
     }
     Ok(())
 }
 
 // Steps through the first line; the last request, a sweep after settling, is not taken.
 pub(crate) fn run(rt: &HostRuntime) -> anyhow::Result<()> {
-    let heap = rt.alloc();
-    let mut left_memory = vec![in heap; BLANK; 3]?;
-    let mut right_memory = vec![in heap; BLANK; 2]?;
-    let mut table = vec![in heap; Mask::none(); 4]?;
-    let mut turns = Vec::new(heap);
-    for request in REQUESTS {
-        turns.push(Turn {
-            request,
-            reply: None,
-        })?;
-    }
-    can_open(2, 0)?;
-    let mut left = Draft::open(2, 0, &mut left_memory);
-    let mut right = Draft::open(2, 0, &mut right_memory);
-    fill(&mut left, plain(2, &first_left()))?;
-    fill(&mut right, plain(2, &first_right()))?;
-    let left = left.close();
-    let right = right.close();
+    let mut left_memory = [Step::default(); 3];
+    let mut right_memory = [Step::default(); 2];
+    let mut table = [Mask::default(); 4];
+    let mut turns = REQUESTS.map(|request| Turn {
+        request,
+        reply: None,
+    });
+    let left = family_of(2, &first_left(), &mut left_memory)?;
+    let right = family_of(2, &first_right(), &mut right_memory)?;
     can_begin(&left, &right, table.len())?;
     let comparison = Comparison::begin(&left, &right, LIST, &mut table);
     let done = play(Stage::Open(comparison), &left, &right, &mut turns).done;
     println!(rt; "stepped: {done} of {} requests done", turns.len())?;
-    for turn in turns.iter() {
-        if let Some(reply) = turn.reply {
-            show(rt, reply)?;
-        }
+    for reply in turns.iter().filter_map(|turn| turn.reply) {
+        show(rt, reply)?;
     }
     Ok(())
 }

@@ -2,37 +2,32 @@
 
 // Compares the first worked line, and prints for each listed variant whether the right side can follow the left.
 use comparing::{Comparison, can_begin};
-use families::{Draft, Step, can_open};
-use lines::{first_left, first_right};
+use families::{Family, Step};
+use lines::{family_of, first_left, first_right};
 use masks::Mask;
 use variants::VariantSet;
 
 fn run(rt: &HostRuntime) -> anyhow::Result<()> {
-    let heap = rt.alloc();
-    let blank = Step {
-        from: 0,
-        action: 0,
-        to: 0,
-        set: Mask::none(),
-    };
-    let mut left_memory = vec![in heap; blank; 3]?;
-    let mut right_memory = vec![in heap; blank; 2]?;
-    let mut table = vec![in heap; Mask::none(); 4]?;
-    can_open(2, 0)?;
-    let mut left = Draft::open(2, 0, &mut left_memory);
-    let mut right = Draft::open(2, 0, &mut right_memory);
-    for step in first_left() {
-        left.step(step)?;
-    }
-    for step in first_right() {
-        right.step(step)?;
-    }
-    let left = left.close();
-    let right = right.close();
+    let mut left_memory = [Step::default(); 3];
+    let mut right_memory = [Step::default(); 2];
+    let mut table = [Mask::default(); 4];
+    let left = family_of(2, &first_left(), &mut left_memory)?;
+    let right = family_of(2, &first_right(), &mut right_memory)?;
     let list = Mask::only(0).either(Mask::only(1));
-    can_begin(&left, &right, table.len())?;
-    let mut comparison = Comparison::begin(&left, &right, list, &mut table);
-    let (sweeps, strikes) = comparison.run(9, &left, &right)?;
+    compare(rt, &left, &right, list, &mut table)
+}
+
+// The verdict of a comparison that is run until it settles, and what the run answered.
+fn compare(
+    rt: &HostRuntime,
+    left: &Family<Mask>,
+    right: &Family<Mask>,
+    list: Mask,
+    table: &mut [Mask],
+) -> anyhow::Result<()> {
+    can_begin(left, right, table.len())?;
+    let mut comparison = Comparison::begin(left, right, list, table);
+    let (sweeps, strikes) = comparison.run(9, left, right)?;
     comparison.can_settle()?;
     report(rt, list, comparison.settle().verdict())?;
     println!(rt; "struck {strikes}")?;
@@ -42,11 +37,9 @@ fn run(rt: &HostRuntime) -> anyhow::Result<()> {
 
 // A line for each listed variant: yes if the verdict holds it.
 fn report(rt: &HostRuntime, list: Mask, verdict: Mask) -> anyhow::Result<()> {
-    for v in 0..Mask::size() {
-        if list.has(v) {
-            let answer = if verdict.has(v) { "yes" } else { "no" };
-            println!(rt; "{v} {answer}")?;
-        }
+    for v in (0..Mask::size()).filter(|v| list.has(*v)) {
+        let answer = if verdict.has(v) { "yes" } else { "no" };
+        println!(rt; "{v} {answer}")?;
     }
     Ok(())
 }

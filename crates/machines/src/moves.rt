@@ -2,9 +2,9 @@
 ghost use Rattle.std.specs.Prelude.{◌≡◌, ◌<◌, map, IfOk};
 ghost use Rattle.theory.specs.Systems.{machine};
 ghost use Rattle.families.specs.Drafts.{model};
-ghost use Rattle.machines.specs.Moves.{move_of};
+ghost use Rattle.machines.specs.Moves.{move_of, bare_move};
 
-use families::Family;
+use families::{Family, Step};
 use std::alloc::{AllocError, Global};
 use std::fmt;
 use variants::VariantSet;
@@ -17,11 +17,21 @@ pub struct Move {
     to: u8,
 }
 
+impl<S: Copy> From<Step<S>> for Move {
+    ghost from_gives = { λ x m. m ≡ bare_move x };
+
+    fn from(step: Step<S>) -> Move {
+        Move {
+            from: step.from,
+            action: step.action,
+            to: step.to,
+        }
+    }
+}
+
 impl fmt::Display for Move {
     fn fmt<W: fmt::Write>(&self, f: &mut fmt::Formatter<W>) -> fmt::Result {
-        let from = self.from;
-        let action = self.action;
-        let to = self.to;
+        let Move { from, action, to } = *self;
         write!(f, "{from} --{action}--> {to}")
     }
 }
@@ -34,16 +44,11 @@ pub fn moves_of<S: VariantSet>(
 ) -> Result<Vec<Move>, AllocError>
     ensures { IfOk result (λ m. variant < 1024 → map move_of m.items ≡ (machine (model S.VariantSet family.now) variant).steps) }
 {
-    let steps = family.steps();
-    let mut moves = Vec::new(heap);
-    for step in steps {
-        if step.set.has(variant) {
-            moves.push(Move {
-                from: step.from,
-                action: step.action,
-                to: step.to,
-            })?;
-        }
-    }
-    Ok(moves)
+    family
+        .steps()
+        .iter()
+        .copied()
+        .filter(|step| step.set.has(variant))
+        .map(Move::from)
+        .collect(heap)
 }

@@ -90,16 +90,3 @@ impl fmt::Display for Mask {
         write!(f, "}}")
     }
 }
-
-#[cfg(test)]
-mod tests {
-    use super::*;
-    use std::test::Fail;
-
-    #[test]
-    fn a_mask_is_written_as_its_numbers(rt: HostRuntime) -> Result<(), Fail> {
-        let text = format!(in rt.alloc(); "{} {}", Mask::none(), Mask { bits: 0b1001 })?;
-        assert_eq!(rt; text.as_str(), "{} {0,3}");
-        Ok(())
-    }
-}

@@ -5,13 +5,6 @@ use refusals::Refusal;
 use std::test::Fail;
 use variants::VariantSet;
 
-const BLANK: Step<Mask> = Step {
-    from: 0,
-    action: 0,
-    to: 0,
-    set: Mask { bits: 0 },
-};
-
 #[test]
 fn a_family_has_1_to_64_states(rt: HostRuntime) {
     assert_eq!(rt; can_open(64, 63), Ok(()));
@@ -25,13 +18,14 @@ fn a_family_has_1_to_64_states(rt: HostRuntime) {
 
 #[test]
 fn a_family_holds_1024_steps(rt: HostRuntime) -> Result<(), Fail> {
-    let mut memory = vec![in rt.alloc(); BLANK; 1100]?;
+    let step = Step::<Mask>::default();
+    let mut memory = vec![in rt.alloc(); step; 1100]?;
     let mut draft = Draft::open(1, 0, &mut memory);
     for _ in 0..1023 {
-        draft.step(BLANK)?;
+        draft.step(step)?;
     }
-    assert_eq!(rt; draft.step(BLANK), Ok(()), "step 1024");
-    assert_eq!(rt; draft.step(BLANK), Err(Refusal::NoRoomForStep));
+    assert_eq!(rt; draft.step(step), Ok(()), "step 1024");
+    assert_eq!(rt; draft.step(step), Err(Refusal::NoRoomForStep));
     assert_eq!(rt; Refusal::NoRoomForStep.number(), 5);
     assert_eq!(rt; draft.close().steps().len(), 1024);
     Ok(())
@@ -45,7 +39,7 @@ fn a_family_has_what_its_draft_was_given(rt: HostRuntime) -> Result<(), Fail> {
         to: 1,
         set: Mask::only(5),
     };
-    let mut memory = vec![in rt.alloc(); BLANK; 1]?;
+    let mut memory = [Step::default()];
     let mut draft = Draft::open(2, 1, &mut memory);
     draft.label(0, 0xabcd)?;
     draft.step(given)?;
@@ -60,10 +54,6 @@ fn a_family_has_what_its_draft_was_given(rt: HostRuntime) -> Result<(), Fail> {
     assert_eq!(rt; family.label(0), Some(0xabcd));
     assert_eq!(rt; family.label(1), Some(0));
     assert_eq!(rt; family.label(2), None);
-    let steps = family.steps();
-    assert!(rt; steps.len() == 1);
-    let read = steps[0];
-    assert_eq!(rt; (read.from, read.action, read.to), (0, 7, 1));
-    assert!(rt; read.set.same(given.set));
+    assert_eq!(rt; family.steps(), [given].as_slice());
     Ok(())
 }

@@ -1,6 +1,7 @@
 // Kinds of kinds, and their numbers.
 use masks::Mask;
 use pairs::Pair;
+use std::test::Fail;
 use variants::{Single, VariantSet};
 
 type Two<S> = Pair<S, S>;
@@ -54,4 +55,11 @@ fn one_more_is_counted_no_further(rt: HostRuntime) {
         None,
         "number 1024 is held, and no number up to 1023"
     );
+}
+
+#[test]
+fn a_mask_is_written_as_its_numbers(rt: HostRuntime) -> Result<(), Fail> {
+    let text = format!(in rt.alloc(); "{} {}", Mask::none(), Mask { bits: 0b1001 })?;
+    assert_eq!(rt; text.as_str(), "{} {0,3}");
+    Ok(())
 }

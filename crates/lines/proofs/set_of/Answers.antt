@@ -1,17 +1,21 @@
-use Rattle.std.proofs.Common.{ℕ, List, refl, ap, ◌∙◌}
+use Rattle.std.proofs.Common.{◌≡◌, ℕ, List, true, refl, subst, rules}
 use mathlib.Core.Path.{fun_ext}
-use Rattle.std.proofs.lemmas.List.{take_all}
+use Rattle.std.proofs.lemmas.Fn.{fold_over, slice_gives, fronts}
+use Rattle.masks.specs.declared.Mask.{Mask}
 use Rattle.masks.specs.Words.{word}
 use Rattle.worked.specs.Words.{set_of}
+use Rattle.lines.specs.Meanings.{all_below_64}
 use Rattle.lines.proofs.Numbers.{set_more}
 use Rattle.lines.proofs.set_of.Goals as goal
 
-pub loop-v-preserved : goal.loop-v-preserved
-loop-v-preserved c v =
-    c.either-set.ensures v
-    ∙ set_more c.args.numbers.now c.loop-v.v-index _ v (word c.loop-v.set.bits v) (word c.only.result.bits v)
-    c.requires c.loop-v-test.true refl (c.loop-v.invariant v) (c.only.ensures v)
+-- the numbers so far are those of the set so far
+abbrev Folded : List ℕ → Mask → Type 0
+Folded ys a = all_below_64 ys ≡ true → word a.bits ≡ set_of ys
 
 pub returns : goal.returns
 returns c =
-    fun_ext (λ v. c.loop-v.invariant v ∙ ap (λ (xs : List ℕ). set_of xs v) (take_all c.loop-v.v-index c.args.numbers.now c.loop-v-test.false))
+    subst (λ (ys : List ℕ). Folded ys c.fold.result) c.iter.ensures.rest
+    (fold_over fronts (λ y. y.now) _ Folded _
+    (λ ys a x b f' so_far k. (λ few. set_more ys x.now (word a.bits) (word b.bits) few so_far (λ v. search rules), refl))
+    _ _ _ _ (slice_gives c.iter.result) (λ _. fun_ext c.none.ensures) c.fold.ensures.ran)
+    c.requires

@@ -1,32 +1,23 @@
-use Rattle.std.proofs.Common.{true, false, map, vec_items, refl, ap, ◌∙◌, take_all}
+use Rattle.std.proofs.Common.{map, ap, ◌∙◌, rules}
+use Rattle.std.specs.Iterator.Adapters.{filter_callee}
+use Rattle.std.proofs.lemmas.Iterator.{items_from_collect, YieldsList-from_map, YieldsList-from_slice}
+use Rattle.std.proofs.lemmas.Iterator.Consumers.{YieldsList-from_filter, YieldsList-from_copied}
+use Rattle.std.proofs.lemmas.Result.{IfOk-weaker}
 use Rattle.theory.specs.Systems.{moves}
 use Rattle.families.specs.Models.{step_of}
-use Rattle.machines.specs.Moves.{move_of}
-use Rattle.machines.proofs.Machines.{has_held, with_it, without_it}
+use Rattle.machines.specs.Moves.{move_of, bare_move}
+use Rattle.machines.proofs.Machines.{has, moves_are}
 use Rattle.machines.proofs.moves.moves_of.Goals as goal
-use Rattle.machines.proofs.moves.moves_of.Goals.{then-has+in_ok-push, else-has}
-
-pub loop-step-preserved : goal.loop-step-preserved
-loop-step-preserved g c low =
-    let K = g.S.VariantSet in
-    let v = c.args.variant in
-    let xs = c.steps-steps.result.now in
-    let i = c.loop-step.step-index in
-    let x = c.step-item.result in
-    let ms = vec_items c.loop-step.moves in
-    let so_far = c.loop-step.invariant low in
-    elim c.if-has.branch [
-      | then-has+in_ok-push w ↦
-          let held = has_held v (K.holds x.set v) c.has.result true low c.has.ensures w.if-has.true in
-          ap (λ m. map move_of (vec_items m)) w.moves-is
-          ∙ ap (map move_of) w.in_ok-push.ensures.items
-          ∙ with_it K v xs i x c.loop-step-test.true c.step-item.is ms so_far _ held refl
-      | else-has w ↦
-          let held = has_held v (K.holds x.set v) c.has.result false low c.has.ensures w.if-has.false in
-          ap (λ m. map move_of (vec_items m)) w.moves-is ∙ without_it K v xs i x c.loop-step-test.true c.step-item.is ms so_far held
-    ]
 
 pub returns : goal.returns
-returns g c low =
-    c.loop-step.invariant low
-    ∙ ap (λ xs. moves c.args.variant (map (step_of g.S.VariantSet) xs)) (take_all _ _ c.loop-step-test.false ∙ c.steps-steps.ensures)
+returns g c =
+    let K = g.S.VariantSet in
+    let v = c.args.variant in
+    let xs = c.steps.result.now in
+    IfOk-weaker c.collect.result _ _
+    (λ m is low. ap (map move_of) is ∙ moves_are K v low xs ∙ ap (λ ys. moves v (map (step_of K) ys)) c.steps.ensures)
+    (items_from_collect _ c.collect.ensures.ran
+    (YieldsList-from_map _ bare_move
+    (YieldsList-from_filter _ (has K v) (YieldsList-from_copied (YieldsList-from_slice xs cc))
+    (ap filter_callee c.map.ensures.source ∙ c.filter.ensures.closure) (λ x b q k. search rules))
+    c.map.ensures.closure (λ x r q k. search rules)))
