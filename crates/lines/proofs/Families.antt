@@ -46,7 +46,7 @@ module _ {S : Type 0} (K : Kind S) (d : Draft S) (n places : ℕ) (xs : List (St
         length-map (take i xs) (step_of K),
         length-take d.parts.held (memory_of d),
         length-take i xs,
-        d.room,
+        d.parts.room,
       )
 
   -- by what the steps from place i on are answered: r where the step is taken
