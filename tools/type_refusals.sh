@@ -30,8 +30,8 @@ refused() {
 
 refused "a verdict of an unsettled comparison" 'comparison\.settle()\.verdict()' 'comparison.verdict()' \
     'no method named `verdict` found for type `Comparison<Mask>`'
-refused "a comparison begun with a draft" '^    let left = left\.close();$' '' \
-    'expected `&Family<_>`, found `&Draft<Mask>`'
-refused "a settled comparison that is run" 'comparison\.settle()\.verdict()' 'comparison.settle().run(9, \&left, \&right)' \
+refused "a comparison begun with a draft" 'family_of(2, &first_left(), &mut left_memory)?' 'families::Draft::open(2, 0, \&mut left_memory)' \
+    'expected `&Family<Mask>`, found `&Draft<_>`'
+refused "a settled comparison that is run" 'comparison\.settle()\.verdict()' 'comparison.settle().run(9, left, right)' \
     'no method named `run` found for type `Settled<Mask>`'
 exit $failed

@@ -37,9 +37,10 @@ impl Index {
                 silent: None,
             }; 1024],
         };
-        for place in (0..steps.len()).rev() {
-            let step = steps[place];
-            index.add(place as u16, step.from, step.action);
+        let mut rest = steps;
+        while let Some((step, before)) = rest.split_last() {
+            rest = before;
+            index.add(rest.len() as u16, step.from, step.action);
         }
         index
     }
