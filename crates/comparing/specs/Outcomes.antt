@@ -10,8 +10,8 @@ use Rattle.refusals.specs.Numbers.{answer}
 use Rattle.families.specs.declared.Family.{Family}
 use Rattle.families.specs.Drafts.{model}
 use Rattle.comparing.specs.declared.Comparison.{Comparison}
-use Rattle.comparing.specs.declared.Settled.{Settled}
-use Rattle.comparing.specs.Moments.{frame, moment, settled_frame, settled_moment}
+use Rattle.comparing.specs.declared.Sweeping.{Sweeping}
+use Rattle.comparing.specs.Moments.{Settled, frame, moment, settled_moment}
 
 -- what a sweep answers: its strikes
 abbrev pub swept_answer : Result ℕ Refusal → Answer
@@ -41,11 +41,11 @@ settle_answer (Some k) = cond (k == 0) (granted []) (refused 9)
 
 module _ {S : Type 0} (K : Kind S) where
   -- the outcome of a sweep
-  abbrev pub Sweeps : Comparison S → Family S → Family S → Result ℕ Refusal → Comparison S → Type 0
+  abbrev pub Sweeps : Comparison S Sweeping → Family S → Family S → Result ℕ Refusal → Comparison S Sweeping → Type 0
   Sweeps c left right r c' = Countable K → Does (frame K c) (moment K c) (sweep (model K left) (model K right)) (swept_answer r) (moment K c')
 
   -- the outcome of a run of at most b sweeps
-  abbrev pub Runs : Comparison S → ℕ → Family S → Family S → Result (ℕ × ℕ) Refusal → Comparison S → Type 0
+  abbrev pub Runs : Comparison S Sweeping → ℕ → Family S → Family S → Result (ℕ × ℕ) Refusal → Comparison S Sweeping → Type 0
   Runs c b left right r c' = Countable K → Does (frame K c) (moment K c) (run b (model K left) (model K right)) (ran_answer r) (moment K c')
 
   -- the outcome of ask, which changes nothing
@@ -53,14 +53,14 @@ module _ {S : Type 0} (K : Kind S) where
   Asks f m s t v r = Countable K → Does f m (ask s t v) (asked_answer r) m
 
   -- the outcome of a settle that is refused, which changes nothing
-  abbrev pub SettleRefused : Comparison S → Answer → Type 0
+  abbrev pub SettleRefused : Comparison S Sweeping → Answer → Type 0
   SettleRefused c a = Does (frame K c) (moment K c) settle a (moment K c)
 
   -- the outcome of a settle that is granted
-  pub record Settles (c : Comparison S) (d : Settled S) : Type 0 where
-    pub same_frame : settled_frame K d ≡ frame K c
+  pub record Settles (c : Comparison S Sweeping) (d : Settled S) : Type 0 where
+    pub same_frame : frame K d ≡ frame K c
     pub does : Does (frame K c) (moment K c) settle (granted []) (settled_moment K d)
 
   -- the outcome of a verdict, which changes nothing
   abbrev pub Judges : Settled S → S → Type 0
-  Judges d r = Does (settled_frame K d) (settled_moment K d) verdict (granted (members K.variants (K.holds r))) (settled_moment K d)
+  Judges d r = Does (frame K d) (settled_moment K d) verdict (granted (members K.variants (K.holds r))) (settled_moment K d)

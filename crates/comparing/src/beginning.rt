@@ -7,7 +7,7 @@ ghost use Rattle.families.specs.Drafts.{model};
 ghost use Rattle.comparing.specs.Moments.{Begun};
 ghost use Rattle.comparing.specs.Outcomes.{begin_answer, Fitting};
 
-use crate::Comparison;
+use crate::{Comparison, Sweeping};
 use families::Family;
 use refusals::Refusal;
 use tables::{Origin, Table, fill};
@@ -24,6 +24,7 @@ struct Beginning<'l, 'a, 'r, 'b, S> {
 impl<'l, 'a, 'r, 'b, S: VariantSet> Origin<S> for Beginning<'l, 'a, 'r, 'b, S> {
     ghost stands = { λ b. begun (model S.VariantSet b.left.now) (model S.VariantSet b.right.now) (S.VariantSet.holds b.list) };
 
+    #[tactic(auto, unfolding(theory::specs::Systems::agree))]
     fn set_at(&self, s: u8, t: u8) -> S {
         let (Some(a), Some(b)) = (self.left.label(s), self.right.label(t)) else {
             return S::none();
@@ -69,7 +70,7 @@ impl<'t, S: VariantSet> Comparison<'t, S> {
             table,
             left_start: left.start(),
             right_start: right.start(),
-            last: None,
+            phase: Sweeping { last: None },
         }
     }
 }

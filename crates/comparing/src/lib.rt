@@ -9,19 +9,24 @@ mod settling;
 pub use beginning::can_begin;
 use tables::Table;
 
-// A comparison that takes sweeps: the table, both starts, and what the last sweep struck.
+// A comparison: the table, both starts, and its phase. What may be called depends on the phase.
 #[derive(Drop)]
-pub struct Comparison<'t, S> {
+pub struct Comparison<'t, S, P = Sweeping> {
     table: Table<'t, S>,
     left_start: u8,
     right_start: u8,
+    phase: P,
+}
+
+// The phase in which a comparison takes sweeps: what the last one struck.
+#[derive(Clone, Copy)]
+pub struct Sweeping {
     last: Option<u64>,
 }
 
-// A comparison whose last sweep struck nothing; it takes no more sweeps.
-#[derive(Drop)]
-pub struct Settled<'t, S> {
-    table: Table<'t, S>,
-    left_start: u8,
-    right_start: u8,
-}
+// The phase after a sweep that struck nothing; a comparison in it takes no more sweeps.
+#[derive(Clone, Copy)]
+pub struct Quiet;
+
+// A comparison whose last sweep struck nothing.
+pub type Settled<'t, S> = Comparison<'t, S, Quiet>;

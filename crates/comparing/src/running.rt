@@ -34,7 +34,7 @@ impl<'t, S: VariantSet> Comparison<'t, S> {
         ensures few { Countable S.VariantSet → result ≤ 256 * (256 * 1024) }
     {
         let struck = sweep(&mut self.table, left, right);
-        self.last = Some(struck);
+        self.phase.last = Some(struck);
         struck
     }
 
@@ -50,6 +50,7 @@ impl<'t, S: VariantSet> Comparison<'t, S> {
     }
 
     // Sweeps until one strikes nothing, at most `budget` times; answers the sweeps made and the strikes made.
+    #[tactic(auto, using(crate::proofs::Calls::continues_trans))]
     pub fn run(
         &mut self,
         budget: u32,
@@ -63,11 +64,11 @@ impl<'t, S: VariantSet> Comparison<'t, S> {
             return Err(Refusal::OtherFamilies);
         }
         let mut strikes: u64 = 0;
-        for done in 0..budget {
+        for sweeps in 1..=budget {
             let struck = self.sweep_once(left, right);
             strikes = strikes.saturating_add(struck);
             if struck == 0 {
-                return Ok((done + 1, strikes));
+                return Ok((sweeps, strikes));
             }
         }
         Ok((budget, strikes))

@@ -8,7 +8,7 @@ use Rattle.families.specs.declared.Family.{Family}
 use Rattle.families.specs.Drafts.{model}
 use Rattle.tables.specs.declared.Table.{Table}
 use Rattle.tables.specs.Tables.{standing}
-use Rattle.comparing.specs.Moments.{settled_frame, settled_moment}
+use Rattle.comparing.specs.Moments.{frame, settled_moment}
 use Rattle.guarantee.specs.declared.Compared.{Compared}
 
 -- later places of the memory that n × m pairs were lent are untouched
@@ -18,7 +18,7 @@ pub record BeyondUntouched {S : Type 0} (n m : ℕ) (lent : List S) (T : Table S
 
 -- a comparison that was swept until it settled
 pub record Compares {S : Type 0} (K : Kind S) (left right : Family S) (list : S) (lent : List S) (r : Compared S) : Type 0 where
-  pub frame : settled_frame K r.settled ≡ frame_of K.variants (model K left) (model K right)
+  pub frame : frame K r.settled ≡ frame_of K.variants (model K left) (model K right)
   -- a pair holds a variant exactly if it is listed and a simulation of the variant's machines relates the pair
   pub exact : (s t v : ℕ) → (standing K r.settled.table s t v ≡ true) ↔ ((K.holds list v ≡ true) × Related (model K left) (model K right) v s t)
   -- the table is the largest family simulation

@@ -1,12 +1,10 @@
 -- Turn by turn.
-use Rattle.std.proofs.Common.{◌≡◌, ℕ, ◌+◌, ◌*◌, ◌<◌, ◌≤◌, true, false, List, [], ◌∷◌, ◌++◌, map, length, get_or, take, drop, set, is_some, Some, None, Option, sym, refl, ap, ◌∙◌, subst, ap₂, subst₂, append_assoc, arith, take-append-drop}
+use Rattle.std.proofs.Common.{◌≡◌, ℕ, ◌+◌, ◌*◌, ◌<◌, ◌≤◌, true, List, [], ◌∷◌, ◌++◌, map, length, get_or, take, drop, set, Some, None, Option, sym, refl, ap, ◌∙◌, ap₂, append_assoc, arith, take-append-drop}
 use Rattle.std.proofs.lemmas.List.{append-nil, map-set, set-get_or, get_or-map, take_more_set, take-take, drop-drop, drop-set-lt, drop_more, length-set, drop_all}
-use Rattle.std.proofs.lemmas.Bool.{both_ways}
 use Rattle.theory.specs.Systems as theory
 use Rattle.theory.specs.Answers.{Answer}
-use Rattle.theory.specs.Calls.{Frame, Moment, Does, Takes}
-use Rattle.theory.specs.Histories.{frame_of, SameFamilies, Led, at_once, then, History, Promised}
-use Rattle.theory.specs.Histories as histories
+use Rattle.theory.specs.Calls.{Moment, Takes}
+use Rattle.theory.specs.Histories.{frame_of, SameFamilies, Led, at_once, then}
 use Rattle.theory.proofs.Histories.{comparing_is_exact, led_on, led_before}
 use Rattle.variants.specs.declared.VariantSet.{Ghosts as Kind}
 use Rattle.variants.specs.Kinds.{Countable}
@@ -19,7 +17,7 @@ use Rattle.histories.specs.declared.Reply.{Reply}
 use Rattle.histories.specs.declared.Turn.{Turn}
 use Rattle.histories.specs.declared.Stage.{Stage}
 use Rattle.histories.specs.declared.Taken.{Taken}
-use Rattle.histories.specs.Turns.{call_of, answer_beside, turn_of, told}
+use Rattle.histories.specs.Turns.{call_of, reply_answer, turn_of, told}
 use Rattle.histories.specs.Stages.{stage_table, stage_frame, stage_moment, RoomKept}
 use Rattle.histories.specs.Plays.{Replies, TakesOne, KeepsPromises, Plays}
 
@@ -33,7 +31,7 @@ room_trans T U W p q =
       rows = q.rows ∙ p.rows;
       cols = q.cols ∙ p.cols;
       size = q.size ∙ p.size;
-      beyond = subst (λ (k : ℕ). drop k W.cells.now ≡ drop k U.cells.now) pairs q.beyond ∙ p.beyond;
+      beyond = rw pairs at q.beyond ∙ p.beyond;
     }
 
 -- a request brings the families that it is done with
@@ -47,8 +45,7 @@ own_families L R Verdict a = tt
 module _ {S : Type 0} (K : Kind S) (L R : theory.Family) where
   told_append : (xs ys : List (Turn S)) → told K L R (xs ++ ys) ≡ told K L R ys ++ told K L R xs
   told_append [] ys = sym (append-nil (told K L R ys))
-  told_append (x ∷ xs) ys =
-      ap (λ (zs : List histories.Turn). zs ++ turn_of K L R x ∷ []) (told_append xs ys) ∙ append_assoc (told K L R ys) (told K L R xs) (turn_of K L R x ∷ [])
+  told_append (x ∷ xs) ys = rw (told_append xs ys, append_assoc)
 
   told_more : (xs : List (Turn S)) (i : ℕ) (y : Turn S) → i < length xs → told K L R (take (i + 1) (set xs i y)) ≡ turn_of K L R y ∷ told K L R (take i xs)
   told_more xs i y l = ap (told K L R) (take_more_set xs i y l) ∙ told_append (take i xs) (y ∷ [])
@@ -56,8 +53,7 @@ module _ {S : Type 0} (K : Kind S) (L R : theory.Family) where
   -- the turns up to place k come before the others
   told_split : (xs : List (Turn S)) (k n : ℕ) → k ≤ n → told K L R (take n xs) ≡ told K L R (drop k (take n xs)) ++ told K L R (take k xs)
   told_split xs k n l =
-      ap (told K L R) (sym (take-append-drop k (take n xs))) ∙ told_append (take k (take n xs)) (drop k (take n xs))
-      ∙ ap (λ (ys : List (Turn S)). told K L R (drop k (take n xs)) ++ told K L R ys) (take-take k n xs l)
+      ap (told K L R) (sym (take-append-drop k (take n xs))) ∙ rw (told_append (take k (take n xs)) (drop k (take n xs)), take-take)
 
 -- one turn of a list has its answer written
 requests_kept : {S : Type 0} (xs : List (Turn S)) (i : ℕ) (x : Turn S) (r : Option (Reply S)) → i < length xs → x ≡ get_or xs i x →
@@ -88,22 +84,12 @@ module _ {S : Type 0} (K : Kind S) (left right : Family S) where
   none_yet before turns =
       record { some = omega arith; long = refl; requests = refl; untouched = refl; room = room_refl (stage_table before); frame = refl; leads = λ _. at_once }
 
-  replied : (before : Stage S) (x : Request) (after : Stage S) (r : Option (Reply S)) → is_some r ≡ true → Replies K left right before x after r → Countable K →
-      Does (stage_frame K before) (stage_moment K before) (call_of L R x) (answer_beside K r) (stage_moment K after)
-  replied before x after None e h few = absurd (both_ways false refl e)
-  replied before x after (Some r) e h few = h few
-
-  not_taken : (before : Stage S) (x : Request) (after : Stage S) (r : Option (Reply S)) → is_some r ≡ false → Replies K left right before x after r →
-      (Takes (stage_moment K before) (call_of L R x) → ⊥) × (stage_moment K after ≡ stage_moment K before)
-  not_taken before x after None e h = h
-  not_taken before x after (Some r) e h = absurd (both_ways true e refl)
-
   -- every number of the turns that were done keeps the promises
   module _ (law : (x : S) (v : ℕ) → K.holds x v ≡ true → v < K.variants) where
     promised : (from end : Moment) (turns : List (Turn S)) (done : ℕ) → Led (frame_of K.variants L R) L R from (told K L R (take done turns)) end →
         (k : ℕ) → k ≤ done → KeepsPromises K left right from (told K L R (take k turns))
     promised from end turns done led k l list earlier h =
-        let upto = led_before (told K L R (drop k (take done turns))) (told K L R (take k turns)) (subst (λ (xs : List histories.Turn). Led (frame_of K.variants L R) L R from xs end) (told_split K L R turns k done l) led) in
+        let upto = led_before (told K L R (drop k (take done turns))) (told K L R (take k turns)) (rw (told_split K L R turns k done l) at led) in
         let history = led_on earlier (told K L R (take k turns)) h upto.1 in
         (upto.0, history, (comparing_is_exact K.variants L R (K.holds list) (law list)).over_any_history (told K L R (take k turns) ++ earlier) upto.0 history)
 
@@ -121,51 +107,45 @@ module _ {S : Type 0} (K : Kind S) (left right : Family S) where
             leads = leads;
             stops = stops;
             promises = λ few e k l.
-                promised (stage_moment K before) (stage_moment K end) after done
-                (subst (λ (f : Frame). Led f L R (stage_moment K before) (told K L R (take done after)) (stage_moment K end)) e (leads few)) k l;
+                promised (stage_moment K before) (stage_moment K end) after done (rw e at (leads few)) k l;
           }
         where
           leads : Countable K → Led (stage_frame K before) L R (stage_moment K before) (told K L R (take done after)) (stage_moment K end)
-          leads few = subst (λ (m : Moment). Led (stage_frame K before) L R (stage_moment K before) (told K L R (take done after)) m) (sym same) (so_far.leads few)
+          leads few = rw same (so_far.leads few)
 
       -- all requests were done
       pub all_done : length after ≤ done → Plays K left right before turns after (record { done = done; stage = reached })
-      all_done l = plays reached refl refl (room_refl (stage_table reached)) (λ x rest e _. none x rest (sym (drop_all done turns (omega (arith, so_far.long))) ∙ e))
-        where
-          none : (x : Turn S) (rest : List (Turn S)) → [] ≡ x ∷ rest → ⊥
-          none x rest e = let z : ◌≡◌ {A = ℕ} 0 1 = cc in omega arith
+      all_done l =
+          plays reached refl refl (room_refl (stage_table reached))
+          (λ x rest e _. let h : [] ≡ x ∷ rest = sym (drop_all done turns (omega (arith, so_far.long))) ∙ e in cc)
 
       module _ (l : done < length after) (x : Turn S) (read : x ≡ get_or after done x) (t : Taken S) (taken : TakesOne K left right reached x.request t) where
         -- the next one is not taken
-        pub stopped : is_some t.reply ≡ false → Plays K left right before turns after (record { done = done; stage = t.stage })
+        pub stopped : t.reply ≡ None → Plays K left right before turns after (record { done = done; stage = t.stage })
         stopped e =
-            let h = not_taken reached x.request t.stage t.reply e taken.replies in
-            plays t.stage h.1 taken.frame taken.room (λ y rest is takes.
-            h.0 (subst₂ (λ (m : Moment) (z : Turn S). Takes m (call_of L R z.request)) h.1 (here y rest is) takes))
+            let h : Replies K left right reached x.request t.stage None = rw e at taken.replies in
+            plays t.stage h.1 taken.frame taken.room (λ y rest is takes. h.0 (rw (here y rest is, h.1) at takes))
           where
             here : (y : Turn S) (rest : List (Turn S)) → drop done turns ≡ y ∷ rest → y ≡ x
             here y rest is =
                 let p : get_or after done x ∷ drop (done + 1) after ≡ y ∷ rest = sym (drop_more after done x l) ∙ so_far.untouched ∙ is in
-                let q : get_or after done x ≡ y = cc in
-                sym (read ∙ q)
+                cc
 
         -- the next one is done
-        pub one_more : is_some t.reply ≡ true → SoFar K left right before turns (set after done (record { request = x.request; reply = t.reply })) (done + 1) t.stage
-        one_more e =
+        pub one_more : (r : Reply S) → t.reply ≡ Some r → SoFar K left right before turns (set after done (record { request = x.request; reply = Some r })) (done + 1) t.stage
+        one_more r e =
+            let y : Turn S = record { request = x.request; reply = Some r } in
+            let h : Replies K left right reached x.request t.stage (Some r) = rw e at taken.replies in
             record {
               some = omega (arith, so_far.long);
-              long = length-set after done (record { request = x.request; reply = t.reply }) ∙ so_far.long;
-              requests = requests_kept after done x t.reply l read ∙ so_far.requests;
+              long = length-set after done y ∙ so_far.long;
+              requests = requests_kept after done x (Some r) l read ∙ so_far.requests;
               untouched =
-                  drop-set-lt (done + 1) after done (record { request = x.request; reply = t.reply }) (omega arith)
+                  drop-set-lt (done + 1) after done y (omega arith)
                   ∙ sym (drop-drop 1 done after) ∙ ap (drop 1) so_far.untouched ∙ drop-drop 1 done turns;
               room = room_trans (stage_table before) (stage_table reached) (stage_table t.stage) so_far.room taken.room;
               frame = taken.frame ∙ so_far.frame;
               leads = λ few.
-                  subst (λ (ts : List histories.Turn). Led (stage_frame K before) L R (stage_moment K before) ts (stage_moment K t.stage))
-                  (sym (told_more K L R after done (record { request = x.request; reply = t.reply }) l))
-                  (then (call_of L R x.request) (answer_beside K t.reply) (so_far.leads few)
-                  (subst (λ (f : Frame). Does f (stage_moment K reached) (call_of L R x.request) (answer_beside K t.reply) (stage_moment K t.stage)) so_far.frame
-                  (replied reached x.request t.stage t.reply e taken.replies few))
-                  (own_families L R x.request (answer_beside K t.reply)));
+                  rw (told_more K L R after done y l)
+                  (then (call_of L R x.request) (reply_answer K r) (so_far.leads few) (rw so_far.frame at (h few)) (own_families L R x.request (reply_answer K r)));
             }

@@ -3,7 +3,7 @@ use Rattle.std.specs.Prelude.{◌≡◌, ◌*◌, length, drop}
 use Rattle.theory.specs.Calls.{Frame, Moment}
 use Rattle.variants.specs.declared.VariantSet.{Ghosts as Kind}
 use Rattle.tables.specs.declared.Table.{Table}
-use Rattle.comparing.specs.Moments.{frame, moment, settled_frame, settled_moment}
+use Rattle.comparing.specs.Moments.{frame, moment, settled_moment}
 use Rattle.histories.specs.declared.Stage.{Stage}
 use Rattle.histories.specs.declared.Stage.TheVariants.{Open, Settled}
 
@@ -16,7 +16,7 @@ module _ {S : Type 0} (K : Kind S) where
   -- what it keeps from begin
   abbrev pub stage_frame : Stage S → Frame
   stage_frame (Open c) = frame K c
-  stage_frame (Settled d) = settled_frame K d
+  stage_frame (Settled d) = frame K d
 
   -- and its moment
   abbrev pub stage_moment : Stage S → Moment

@@ -10,14 +10,13 @@ use variants::VariantSet;
 
 // One request to a comparison that is not settled.
 fn take_open<'t, S: VariantSet>(
-    comparison: Comparison<'t, S>,
+    mut comparison: Comparison<'t, S>,
     left: &Family<S>,
     right: &Family<S>,
     request: Request,
 ) -> Taken<'t, S>
     ensures { TakesOne S.VariantSet left.now right.now (stage.Open comparison.entry) request result }
 {
-    let mut comparison = comparison;
     let reply = match request {
         Request::Sweep => match comparison.sweep(left, right) {
             Ok(strikes) => Some(Reply::Struck(strikes)),
@@ -58,9 +57,7 @@ fn take_settled<'t, S: VariantSet>(settled: Settled<'t, S>, request: Request) ->
             Err(refusal) => Some(Reply::Refused(refusal)),
         },
         Request::Verdict => Some(Reply::Verdict(settled.verdict())),
-        Request::Sweep => None,
-        Request::Run(_) => None,
-        Request::Settle => None,
+        Request::Sweep | Request::Run(_) | Request::Settle => None,
     };
     Taken {
         stage: Stage::Settled(settled),
@@ -86,27 +83,23 @@ fn take<'t, S: VariantSet>(
 // Does the requests in order, with the two families, and writes each answer beside its request, up to the
 // first that the comparison does not take as it then stands.
 pub fn play<'t, S: VariantSet>(
-    stage: Stage<'t, S>,
+    mut stage: Stage<'t, S>,
     left: &Family<S>,
     right: &Family<S>,
     turns: &mut [Turn<S>],
 ) -> Played<'t, S>
     ensures { Plays S.VariantSet left.now right.now stage.entry turns.old turns.new result }
 {
-    let mut reached = stage;
-    for done in 0..turns.len() {
-        let Taken { stage, reply } = take(reached, left, right, turns[done].request);
-        reached = stage;
-        if reply.is_none() {
-            return Played {
-                done,
-                stage: reached,
-            };
-        }
-        turns[done].reply = reply;
+    for (done, turn) in turns.iter_mut().enumerate() {
+        let Taken { stage: next, reply } = take(stage, left, right, turn.request);
+        stage = next;
+        let Some(reply) = reply else {
+            return Played { done, stage };
+        };
+        turn.reply = Some(reply);
     }
     Played {
         done: turns.len(),
-        stage: reached,
+        stage,
     }
 }

@@ -2,7 +2,7 @@
 use Rattle.std.proofs.Common.{◌≡◌, ℕ, zero, suc, ◌+◌, ◌-◌, ◌*◌, ◌<◌, ◌≤◌, min, Bool, true, false, ◌&&◌, eqb, ltb, ◌≢◌, List, [], ◌∷◌, map, length, get_or, take, drop, set, sym, refl, ap, ◌∙◌, ap₂, inl, inr, arith}
 use mathlib.Core.Path.{fun_ext}
 use Rattle.std.proofs.lemmas.Nat.{mul-add-lt}
-use Rattle.std.proofs.lemmas.List.{get_or-map, map-set, take-map, drop-map, length-map, get_or-set_same, get_or-set_other, get_or-take, get_or-drop, get_or_past, length-take}
+use Rattle.std.proofs.lemmas.List.{map-set, take-map, drop-map, length-map, get_or-set_same, get_or-set_other, get_or-take, get_or-drop, get_or_past, length-take}
 use Rattle.std.proofs.lemmas.Bool.{and_from, and_parts, and_left, and_right, lt-ltb, le-ltb, ltb-true, eqb-true, eq-eqb, cases_Bool, cases_lt, cond-true, cond-false, both_ways}
 use Rattle.theory.specs.Sets.{Variants}
 use Rattle.theory.proofs.Counting.{digits_same}
@@ -11,10 +11,6 @@ use Rattle.tables.specs.Cells.{cell, grid}
 use Rattle.tables.specs.Tables.{written}
 
 module _ {S : Type 0} (K : Kind S) where
-  -- the set read at a place
-  pub cell_read : (xs : List S) (k : ℕ) (x : S) → k < length xs → x ≡ get_or xs k x → (v : ℕ) → K.holds x v ≡ cell K xs k v
-  cell_read xs k x l e v = ap (λ (y : S). K.holds y v) e ∙ ap (λ (f : Variants). f v) (sym (get_or-map K.holds xs k x (λ _. false) l))
-
   -- past the end nothing is held
   pub cell_past : (xs : List S) (k : ℕ) → length xs ≤ k → (v : ℕ) → cell K xs k v ≡ false
   cell_past xs k l v = ap (λ (f : Variants). f v) (get_or_past (map K.holds xs) k (λ _. false) (simp length-map l))

@@ -1,13 +1,10 @@
 -- Tables that resemble each other, and tables that are filled.
-use Rattle.std.proofs.Common.{◌≡◌, ℕ, ◌+◌, ◌*◌, ◌<◌, Bool, ◌&&◌, eqb, ltb, ◌⊎◌, length, drop, sym, refl, ap, ◌∙◌, subst, ap₂, inl, inr, arith}
-use mathlib.Core.Path.{fun_ext}
-use Rattle.std.proofs.lemmas.Bool.{and_from, and_left, and_right, and_parts, ltb-true, eq-eqb, ne_eqb, cond-true, cond-false, cases_eq, cases_lt, cases_Bool}
+use Rattle.std.proofs.Common.{◌≡◌, ℕ, ◌+◌, ◌*◌, ◌<◌, ◌&&◌, eqb, ◌⊎◌, length, drop, sym, refl, ap, ◌∙◌, subst, ap₂, inl, inr, arith}
+use Rattle.std.proofs.lemmas.Bool.{and_from, and_left, and_right, eq-eqb, ne_eqb, cond-true, cond-false, cases_eq, cases_lt}
 use Rattle.theory.specs.Sets.{Variants}
 use Rattle.theory.specs.Tables as theory
-use Rattle.variants.specs.declared.VariantSet.{Ghosts as Kind}
 use Rattle.tables.specs.declared.Table.{Table}
-use Rattle.tables.specs.Cells.{bounded}
-use Rattle.tables.specs.Tables.{standing, written, Fits, Has, Resembles}
+use Rattle.tables.specs.Tables.{written, Fits, Has, Resembles}
 use Rattle.tables.proofs.Places.{place_below}
 
 pub resembles_refl : {S : Type 0} (T : Table S) → Resembles T T
@@ -63,16 +60,3 @@ module _ (T U : theory.Table) (s t : ℕ) (X : Variants) (w : U ≡ written T s 
     | inl e ↦ ap (λ (k : ℕ). U s k v) e ∙ written_here v ∙ here v ∙ ap (λ (k : ℕ). B s k v) (sym e)
     | inr ne ↦ at s t' v ∙ cond-false (eqb s s && eqb t' t) _ _ (and_right _ _ (ne_eqb t' t ne)) ∙ before t' v (omega arith)
   ]
-
--- where every pair is as the origin has it, the whole table is
-pub all_filled : {S : Type 0} (K : Kind S) (T : Table S) (n m : ℕ) (B : theory.Table) → T.rows ≡ n → T.cols ≡ m →
-    ((r t v : ℕ) → r < n → t < m → standing K T r t v ≡ B r t v) → standing K T ≡ bounded n m B
-all_filled K T n m B p q filled = fun_ext (λ r. fun_ext (λ t. fun_ext (λ v. at r t v)))
-  where
-    at : (r t v : ℕ) → standing K T r t v ≡ bounded n m B r t v
-    at r t v = elim (cases_Bool (ltb r n && ltb t m)) [
-      | inl e ↦
-          let l = and_parts _ _ e in
-          filled r t v (ltb-true r n l.0) (ltb-true t m l.1) ∙ sym (ap (λ (b : Bool). b && B r t v) e)
-      | inr e ↦ and_left _ _ (ap₂ (λ (x y : ℕ). ltb r x && ltb t y) p q ∙ e) ∙ sym (and_left _ _ e)
-    ]

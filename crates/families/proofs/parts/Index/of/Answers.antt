@@ -23,13 +23,6 @@ last xs rest before x filed e split =
 pub loop-step-init : goal.loop-step-init
 loop-step-init g c = record { first = ([], sym (append-nil c.args.steps.now)); index = index_none c.args.steps.now; sized = sized_none }
 
-pub add-requires-clause-from : goal.add-requires-clause-from
-add-requires-clause-from g c =
-    let i = c.loop-step.invariant in
-    let x = c.in-Some.step.now in
-    let l = last c.args.steps.now c.loop-step.rest.now c.in-Some.before.now x i.first.0 i.first.1 c.in-Some.ensures.cases.0 in
-    subst (λ (y : Step _). y.from < 64) (sym l.read) (c.requires.leaves _ x (omega arith) l.below)
-
 pub loop-step-preserved : goal.loop-step-preserved
 loop-step-preserved g c =
     let i = c.loop-step.invariant in
