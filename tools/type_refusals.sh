@@ -29,9 +29,9 @@ refused() {
 }
 
 refused "a verdict of an unsettled comparison" 'comparison\.settle()\.verdict()' 'comparison.verdict()' \
-    'no method named `verdict` found for type `Comparison<Mask>`'
+    'the method `verdict` takes `self` as `&Comparison<S, Quiet>`, and is called on `Comparison<Mask>`'
 refused "a comparison begun with a draft" 'family_of(2, &first_left(), &mut left_memory)?' 'families::Draft::open(2, 0, \&mut left_memory)' \
     'expected `&Family<Mask>`, found `&Draft<_>`'
 refused "a settled comparison that is run" 'comparison\.settle()\.verdict()' 'comparison.settle().run(9, left, right)' \
-    'no method named `run` found for type `Settled<Mask>`'
+    'the method `run` takes `self` as `&mut Comparison<S>`, and is called on `Comparison<Mask, Quiet>`'
 exit $failed

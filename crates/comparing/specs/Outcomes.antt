@@ -40,6 +40,10 @@ settle_answer None = refused 9
 settle_answer (Some k) = cond (k == 0) (granted []) (refused 9)
 
 module _ {S : Type 0} (K : Kind S) where
+  -- what begin grants to two families
+  abbrev pub Beginnable : Family S → Family S → ℕ → Type 0
+  Beginnable left right places = Fitting K.variants (model K left).states (model K right).states places
+
   -- the outcome of a sweep
   abbrev pub Sweeps : Comparison S Sweeping → Family S → Family S → Result ℕ Refusal → Comparison S Sweeping → Type 0
   Sweeps c left right r c' = Countable K → Does (frame K c) (moment K c) (sweep (model K left) (model K right)) (swept_answer r) (moment K c')

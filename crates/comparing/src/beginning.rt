@@ -5,7 +5,7 @@ ghost use Rattle.theory.specs.Histories.{ComparingIsExact};
 ghost use Rattle.refusals.specs.Numbers.{plain};
 ghost use Rattle.families.specs.Drafts.{model};
 ghost use Rattle.comparing.specs.Moments.{Begun};
-ghost use Rattle.comparing.specs.Outcomes.{begin_answer, Fitting};
+ghost use Rattle.comparing.specs.Outcomes.{begin_answer, Beginnable};
 
 use crate::{Comparison, Sweeping};
 use families::Family;
@@ -40,7 +40,7 @@ pub fn can_begin<S: VariantSet>(
     places: usize,
 ) -> Result<(), Refusal>
     ensures answers { plain result ≡ begin_answer S.VariantSet.variants (model S.VariantSet left.now).states (model S.VariantSet right.now).states places }
-    ensures grants { OnOk result (Fitting S.VariantSet.variants (model S.VariantSet left.now).states (model S.VariantSet right.now).states places) }
+    ensures grants { OnOk result (Beginnable S.VariantSet left.now right.now places) }
 {
     if S::size() == 1025 {
         return Err(Refusal::KindTooLarge);
@@ -59,7 +59,7 @@ impl<'t, S: VariantSet> Comparison<'t, S> {
         list: S,
         table: &'t mut [S],
     ) -> Comparison<'t, S>
-        requires { Fitting S.VariantSet.variants (model S.VariantSet left.now).states (model S.VariantSet right.now).states (length table.old) }
+        requires { Beginnable S.VariantSet left.now right.now (length table.old) }
         ensures begins { Begun S.VariantSet left.now right.now list table.old result }
         ensures memory { result.table.cells.ghost_name ≡ table.entry.ghost_name }
         ensures promises { ComparingIsExact S.VariantSet.variants (model S.VariantSet left.now) (model S.VariantSet right.now) (S.VariantSet.holds list) }

@@ -102,7 +102,7 @@ module _ {S : Type 0} (K : Kind S) (left right : lib.Family S) (list : S) (lent 
     own_run_settles =
         some_of c'.phase.last
         (quiet K.variants L R (K.holds list) 4294967295 (frame K c) (moment K c) (moment K c') r begun.begun_frame begun.begun_moment (runs few)
-        exact j k got refl (places_few L.states R.states K.variants left.states.1 right.states.1 few))
+        exact j k got refl (places_few L.states R.states K.variants left.parts.few.1 right.parts.few.1 few))
 
     continues : Continues c c'
     continues = rw got at leaves

@@ -1,7 +1,6 @@
 // Two families, examined in every way.
 ghost use Rattle.std.specs.Prelude.{length};
-ghost use Rattle.families.specs.Drafts.{model};
-ghost use Rattle.comparing.specs.Outcomes.{Fitting};
+ghost use Rattle.comparing.specs.Outcomes.{Beginnable};
 ghost use Rattle.guarantee.specs.Everything.{EverythingHolds};
 
 use crate::Examined;
@@ -22,7 +21,7 @@ pub fn examine<'t, S: VariantSet>(
     candidate: &[S],
     scratch: &mut [S],
 ) -> Examined<'t, S>
-    requires { Fitting S.VariantSet.variants (model S.VariantSet left.now).states (model S.VariantSet right.now).states (length table.old) }
+    requires { Beginnable S.VariantSet left.now right.now (length table.old) }
     ensures { EverythingHolds S.VariantSet left.now right.now list table.old turns.old turns.new candidate.now scratch.old scratch.new result }
 {
     let comparison = Comparison::begin(left, right, list, table);

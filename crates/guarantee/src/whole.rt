@@ -1,7 +1,6 @@
 // A whole comparison in one call.
 ghost use Rattle.std.specs.Prelude.{length};
-ghost use Rattle.families.specs.Drafts.{model};
-ghost use Rattle.comparing.specs.Outcomes.{Fitting};
+ghost use Rattle.comparing.specs.Outcomes.{Beginnable};
 ghost use Rattle.guarantee.specs.Wholes.{Compares};
 
 use crate::Compared;
@@ -17,7 +16,7 @@ pub fn compare<'t, S: VariantSet>(
     list: S,
     table: &'t mut [S],
 ) -> Compared<'t, S>
-    requires { Fitting S.VariantSet.variants (model S.VariantSet left.now).states (model S.VariantSet right.now).states (length table.old) }
+    requires { Beginnable S.VariantSet left.now right.now (length table.old) }
     ensures { Compares S.VariantSet left.now right.now list table.old result }
 {
     let mut comparison = Comparison::begin(left, right, list, table);
