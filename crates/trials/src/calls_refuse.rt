@@ -69,10 +69,7 @@ fn marking_refuses_by_number(rt: HostRuntime) -> Result<(), Fail> {
     let refused = mark(&left, &right, LIST, &unlisted, &mut scratch);
     assert_eq!(rt; refused, Err(Refusal::UnlistedVariant));
     assert_eq!(rt; scratch[0], OTHER, "a refusal writes nothing");
-    assert_eq!(rt;
-        mark(&left, &right, LIST, &good, &mut scratch),
-        Ok(Ok(()))
-    );
+    assert_eq!(rt; mark(&left, &right, LIST, &good, &mut scratch), Ok(Ok(())));
     assert_eq!(rt;
         scratch[4],
         Mask::all(),
