@@ -23,7 +23,7 @@ fn compare(
     right: &Family<Mask>,
     budget: u32,
 ) -> anyhow::Result<Outcome> {
-    let places = left.states() as usize * right.states() as usize;
+    let places = usize::from(left.states()) * usize::from(right.states());
     let mut table = vec![in rt.alloc(); Mask::default(); places]?;
     can_begin(left, right, table.len())?;
     let mut comparison = Comparison::begin(left, right, LIST, &mut table);

@@ -15,13 +15,13 @@ use variants::VariantSet;
 
 // What a comparison begins with: the list where the labels are equal, else nothing.
 #[derive(Drop)]
-struct Beginning<'l, 'a, 'r, 'b, S> {
-    left: &'l Family<'a, S>,
-    right: &'r Family<'b, S>,
+struct Beginning<'f, S> {
+    left: &'f Family<'f, S>,
+    right: &'f Family<'f, S>,
     list: S,
 }
 
-impl<'l, 'a, 'r, 'b, S: VariantSet> Origin<S> for Beginning<'l, 'a, 'r, 'b, S> {
+impl<'f, S: VariantSet> Origin<S> for Beginning<'f, S> {
     ghost stands = { λ b. begun (model S.VariantSet b.left.now) (model S.VariantSet b.right.now) (S.VariantSet.holds b.list) };
 
     #[tactic(auto, unfolding(theory::specs::Systems::agree))]
@@ -45,7 +45,7 @@ pub fn can_begin<S: VariantSet>(
     if S::size() == 1025 {
         return Err(Refusal::KindTooLarge);
     }
-    if places < left.states() as usize * right.states() as usize {
+    if places < usize::from(left.states()) * usize::from(right.states()) {
         return Err(Refusal::TableTooShort);
     }
     Ok(())
