@@ -1,7 +1,7 @@
 // The candidates that are marked.
 use crate::swept::LIST;
-use families::{Family, Step};
-use lines::{family_of, second_left, second_right};
+use families::{Family, Step, family_of};
+use lines::{second_left, second_right};
 use marking::mark;
 use masks::Mask;
 

@@ -1,9 +1,9 @@
 // A comparison that is stepped through, request by request.
 use crate::swept::LIST;
 use comparing::{Comparison, can_begin};
-use families::Step;
+use families::{Step, family_of};
 use histories::{Reply, Request, Stage, Turn, play};
-use lines::{family_of, first_left, first_right};
+use lines::{first_left, first_right};
 use masks::Mask;
 
 const REQUESTS: [Request; 9] = [

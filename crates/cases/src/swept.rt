@@ -1,7 +1,7 @@
 // The lines that are swept.
 use comparing::{Comparison, can_begin};
-use families::{Draft, Family, Step, can_open};
-use lines::{crossed_left, crossed_right, family_of, first_left, first_right};
+use families::{Draft, Family, Step, can_open, family_of};
+use lines::{crossed_left, crossed_right, first_left, first_right};
 use masks::Mask;
 use refusals::Refusal;
 
@@ -23,7 +23,7 @@ fn compare(
     right: &Family<Mask>,
     budget: u32,
 ) -> anyhow::Result<Outcome> {
-    let places = usize::from(left.states()) * usize::from(right.states());
+    let places = left.pairs_with(right);
     let mut table = vec![in rt.alloc(); Mask::default(); places]?;
     can_begin(left, right, table.len())?;
     let mut comparison = Comparison::begin(left, right, LIST, &mut table);

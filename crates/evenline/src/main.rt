@@ -2,8 +2,8 @@
 
 // Compares the first worked line, and prints for each listed variant whether the right side can follow the left.
 use comparing::{Comparison, can_begin};
-use families::{Family, Step};
-use lines::{family_of, first_left, first_right};
+use families::{Family, Step, family_of};
+use lines::{first_left, first_right};
 use masks::Mask;
 use variants::VariantSet;
 
@@ -17,7 +17,7 @@ fn run(rt: &HostRuntime) -> anyhow::Result<()> {
     compare(rt, &left, &right, list, &mut table)
 }
 
-// The verdict of a comparison that is run until it settles, and what the run answered.
+// Runs a comparison of the two families, and prints the verdict and what the run answered.
 fn compare(
     rt: &HostRuntime,
     left: &Family<Mask>,

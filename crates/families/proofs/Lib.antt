@@ -1,3 +1,4 @@
 pub mod Models
 pub mod Chains
 pub mod Walks
+pub mod Lists

@@ -4,3 +4,4 @@ pub mod Places
 pub mod Models
 pub mod Seeking
 pub mod Drafts
+pub mod Making

@@ -22,6 +22,10 @@ meaning K p =
 abbrev pub bare : ℕ → ℕ → theory.Family
 bare n start = record { states = n; start = start; label = λ s. 0; steps = [] }
 
+-- n states that start in state 0, all labels 0, and the steps
+abbrev pub made : ℕ → List theory.Step → theory.Family
+made n steps = record { states = n; start = 0; label = λ s. 0; steps = steps }
+
 -- F, but state s has the label l
 abbrev pub with_label : theory.Family → ℕ → ℕ → theory.Family
 with_label F s l =

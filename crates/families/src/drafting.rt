@@ -46,7 +46,7 @@ impl<'a, S: VariantSet> Draft<'a, S> {
         if state >= self.parts.states {
             return Err(Refusal::NoSuchState);
         }
-        self.parts.labels[state as usize] = lamps;
+        self.parts.labels[usize::from(state)] = lamps;
         Ok(())
     }
 

@@ -6,11 +6,13 @@ ghost use Rattle.families.specs.Places.{FirstLeaving, NextLeaving, FirstSilent, 
 
 mod drafting;
 mod indexing;
+mod making;
 mod parts;
 mod reading;
 mod seeking;
 
 pub use drafting::can_open;
+pub use making::family_of;
 pub use parts::Step;
 use parts::{Index, Parts};
 pub use seeking::{Sought, Steps};
@@ -21,7 +23,8 @@ pub struct Draft<'a, S> {
     parts: Parts<'a, S>,
 }
 
-// A closed family, which does not change; the index has the places of its steps by the state that they leave.
+// A closed family, which does not change; the index has the places of its steps by the state that they leave, and
+// those of its silent steps.
 #[derive(Drop)]
 pub struct Family<'a, S> {
     parts: Parts<'a, S>,

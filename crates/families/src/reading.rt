@@ -1,5 +1,5 @@
 // What is read of a closed family.
-ghost use Rattle.std.specs.Prelude.{◌≡◌, ◌<◌, ◌≤◌};
+ghost use Rattle.std.specs.Prelude.{◌≡◌, ◌*◌, ◌<◌, ◌≤◌};
 ghost use Rattle.families.specs.Models.{held_steps};
 ghost use Rattle.families.specs.Seeking.{sought_from, numbered};
 ghost use Rattle.families.specs.declared.seeking.Sought.TheVariants.{Leaving, Silent};
@@ -18,6 +18,14 @@ impl<'a, S: VariantSet> Family<'a, S> {
         self.parts.states
     }
 
+    // How many pairs there are of a state of this family and one of the other.
+    pub fn pairs_with(&self, other: &Family<S>) -> usize
+        ensures value { result ≡ (model S.VariantSet self.now).states * (model S.VariantSet other.now).states }
+        ensures few { result ≤ 4096 }
+    {
+        usize::from(self.parts.states) * usize::from(other.parts.states)
+    }
+
     // The state in which every machine of the family starts.
     pub fn start(&self) -> u8
         ensures value { result ≡ (model S.VariantSet self.now).start }
@@ -31,7 +39,7 @@ impl<'a, S: VariantSet> Family<'a, S> {
         ensures { result ≡ label_at (model S.VariantSet self.now) state }
     {
         if state < self.parts.states {
-            Some(self.parts.labels[state as usize])
+            Some(self.parts.labels[usize::from(state)])
         } else {
             None
         }

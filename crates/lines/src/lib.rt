@@ -1,20 +1,15 @@
 #![tactic(auto)]
 
 // The worked lines as steps of Masks: each function lists the steps of the family that the worked theorem has
-// under the same name. `family_of` makes the family of such a list.
-ghost use Rattle.std.specs.Prelude.{◌≡◌, true, map, length, [], IfOk};
+// under the same name.
+ghost use Rattle.std.specs.Prelude.{◌≡◌, true};
 ghost use Rattle.masks.specs.Words.{word};
-ghost use Rattle.worked.specs.Words.{set_of, step as written, family};
+ghost use Rattle.worked.specs.Words.{set_of, step as written};
 ghost use Rattle.worked.specs.Lines.{first_left, first_right, crossed_left, crossed_right, second_left, second_right};
-ghost use Rattle.refusals.specs.Numbers.{answer};
-ghost use Rattle.families.specs.Models.{step_of};
-ghost use Rattle.families.specs.Drafts.{model};
 ghost use Rattle.lines.specs.Meanings.{all_below_64, meaning, Lists};
-ghost use Rattle.lines.specs.Families.{family_answer};
 
-use families::{Draft, Family, Step, can_open};
+use families::Step;
 use masks::Mask;
-use refusals::Refusal;
 use variants::VariantSet;
 
 // The set of the numbers.
@@ -93,22 +88,4 @@ pub fn second_right() -> [Step<Mask>; 3]
         step(0, 1, 2, &[0]),
         step(1, 1, 2, &[1]),
     ]
-}
-
-// The closed family of so many states that has the steps, in their order, over the lent memory; it starts in
-// state 0, and all labels are 0.
-pub fn family_of<'a, S: VariantSet>(
-    states: u8,
-    steps: &[Step<S>],
-    memory: &'a mut [Step<S>],
-) -> Result<Family<'a, S>, Refusal>
-    ensures answers { answer (λ _. []) result ≡ family_answer states (length memory.old) steps.now }
-    ensures closes { IfOk result (λ f. model S.VariantSet f ≡ family states (map (step_of S.VariantSet) steps.now)) }
-{
-    can_open(states, 0)?;
-    let mut draft = Draft::open(states, 0, memory);
-    for step in steps {
-        draft.step(*step)?;
-    }
-    Ok(draft.close())
 }

@@ -3,8 +3,8 @@
 // Prints the machines of a worked line, variant by variant.
 mod moves;
 
-use families::{Family, Step};
-use lines::{family_of, first_left, first_right};
+use families::{Family, Step, family_of};
+use lines::{first_left, first_right};
 use masks::Mask;
 use moves::moves_of;
 

@@ -42,8 +42,7 @@ pub fn places<S: VariantSet>(family: &Family<S>) -> usize
     ensures value { result ≡ reach_places S.VariantSet family.now }
     ensures few { result ≤ 4096 }
 {
-    let n = usize::from(family.states());
-    n * n
+    family.pairs_with(family)
 }
 
 // Writes the silent reach of the family into the first places, row by row; answers the rounds that it took.

@@ -10,10 +10,9 @@ use Rattle.refusals.specs.declared.Refusal.TheVariants.{StatesOutOfRange, StartO
 use Rattle.refusals.specs.Numbers.{number_of}
 use Rattle.families.specs.declared.parts.Step.{Step}
 use Rattle.families.specs.declared.Draft.{Draft}
-use Rattle.families.specs.Models.{step_of}
+use Rattle.families.specs.Models.{step_of, made}
 use Rattle.families.specs.Drafts.{drafted, memory_of, step_answer}
-use Rattle.worked.specs.Words.{family}
-use Rattle.lines.specs.Families.{steps_answer}
+use Rattle.families.specs.Making.{steps_answer}
 
 -- no refusal has the number of a grant
 not_granted : (e : Refusal) → refused (number_of e) ≡ granted [] → ⊥
@@ -36,7 +35,7 @@ not_granted e p = absurd (omega (arith, some_number e, ap (λ (a : Answer). a.nu
 
 -- the step at place i of the list, brought to a draft that holds those before it
 module _ {S : Type 0} (K : Kind S) (d : Draft S) (n places : ℕ) (xs : List (Step S)) (i : ℕ) (x : Step S) (l : i < length xs) (read : x ≡ get_or xs i x)
-    (means : drafted K d ≡ family n (map (step_of K) (take i xs))) (lent : length (memory_of d) ≡ places) where
+    (means : drafted K d ≡ made n (map (step_of K) (take i xs))) (lent : length (memory_of d) ≡ places) where
   held : d.parts.held ≡ i
   held =
       omega (

@@ -1,6 +1,6 @@
 use Rattle.std.proofs.Common.{rules}
-use Rattle.lines.proofs.Families.{not_taken}
-use Rattle.lines.proofs.family_of.Goals as goal
+use Rattle.families.proofs.Lists.{not_taken}
+use Rattle.families.proofs.making.family_of.Goals as goal
 
 pub returns-in_err-step-clause-answers : goal.returns-in_err-step-clause-answers
 returns-in_err-step-clause-answers g c =
