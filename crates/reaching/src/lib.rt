@@ -42,7 +42,8 @@ pub fn places<S: VariantSet>(family: &Family<S>) -> usize
     ensures value { result ≡ reach_places S.VariantSet family.now }
     ensures few { result ≤ 4096 }
 {
-    family.pairs_with(family)
+    let n = usize::from(family.states());
+    n * n
 }
 
 // Writes the silent reach of the family into the first places, row by row; answers the rounds that it took.
