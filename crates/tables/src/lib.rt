@@ -79,7 +79,7 @@ impl<'t, S: VariantSet> Table<'t, S> {
         ensures writes { Has self.old s t → standing S.VariantSet self.new ≡ written (standing S.VariantSet self.old) s t (S.VariantSet.holds x) }
         ensures passes { (Has self.old s t → ⊥) → Same self.old self.new }
     {
-        let place = s as usize * self.cols as usize + t as usize;
+        let place = usize::from(s) * usize::from(self.cols) + usize::from(t);
         if s < self.rows && t < self.cols && place < self.cells.len() {
             self.cells[place] = x;
         }

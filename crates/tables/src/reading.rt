@@ -29,8 +29,8 @@ impl<'c, S: VariantSet> Grid<'c, S> {
     pub fn row(&self, s: u8) -> &'c [S]
         ensures { (t v : ℕ) → cell S.VariantSet result.now t v ≡ shown S.VariantSet self.now s t v }
     {
-        let first = s as usize * self.cols as usize;
-        let end = (first + self.cols as usize).min(self.cells.len());
+        let first = usize::from(s) * usize::from(self.cols);
+        let end = (first + usize::from(self.cols)).min(self.cells.len());
         if s < self.rows && first < end {
             &self.cells[first..end]
         } else {
