@@ -1,8 +1,9 @@
 -- The answers among the steps that leave a state.
-use Rattle.std.proofs.Common.{◌≡◌, ℕ, ◌+◌, Bool, true, false, cond, ◌&&◌, ◌||◌, eqb, List, [], ◌∷◌, map, sym, refl, ap, ◌∙◌}
+use Rattle.std.proofs.Common.{◌≡◌, ℕ, ◌+◌, Bool, true, false, cond, ◌&&◌, ◌||◌, eqb, List, [], ◌∷◌, ◌++◌, map, sym, refl, ap, ◌∙◌}
 use Rattle.theory.specs.Systems as theory
 use Rattle.theory.specs.Tables.{Table}
 use Rattle.theory.specs.Sweeps.{answers, answered}
+use Rattle.theory.proofs.Booleans.{or_false, or_assoc}
 use Rattle.variants.specs.declared.VariantSet.{Ghosts as Kind}
 use Rattle.families.specs.declared.parts.Step.{Step}
 use Rattle.families.specs.declared.seeking.Sought.TheVariants.{Leaving}
@@ -13,6 +14,11 @@ module _ {S : Type 0} (K : Kind S) (T : Table) (t : ℕ) (y : theory.Step) (v : 
   -- one of the steps, each with its place, answers
   abbrev pub answered_by : List (ℕ × Step S) → Bool
   answered_by ps = answered (map (λ p. step_of K p.1) ps) T t y v
+
+  -- one step more at the end
+  pub answered_more : (ps : List (ℕ × Step S)) (p : ℕ × Step S) → answered_by (ps ++ p ∷ []) ≡ (answered_by ps || answers T t y v (step_of K p.1))
+  answered_more [] p = or_false _
+  answered_more (q ∷ ps) p = ap (λ (b : Bool). answers T t y v (step_of K q.1) || b) (answered_more ps p) ∙ or_assoc (answers T t y v (step_of K q.1)) (answered_by ps) (answers T t y v (step_of K p.1))
 
   -- a step from elsewhere answers nothing
   pub answered_leaving : (xs : List (Step S)) (k : ℕ) → answered_by (numbered (Leaving t) xs k) ≡ answered (map (step_of K) xs) T t y v

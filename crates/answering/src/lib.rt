@@ -2,11 +2,11 @@
 
 // In which variants a step of one side is answered by a step of the other with the same action.
 ghost use Rattle.std.specs.Prelude.{◌≡◌, ℕ, Bool, ◌||◌};
-ghost use Rattle.theory.specs.Sweeps.{answers, answered};
+ghost use Rattle.theory.specs.Sweeps.{answered};
 ghost use Rattle.families.specs.Models.{step_of};
 ghost use Rattle.families.specs.Drafts.{model};
 ghost use Rattle.tables.specs.Cells.{cell};
-ghost use Rattle.answering.specs.Partners.{each_row};
+ghost use Rattle.answering.specs.Partners.{each_row, answers_into};
 
 use families::{Family, Step};
 use tables::nth;
@@ -45,7 +45,7 @@ fn joined<S: VariantSet, P: Partners<S>>(
     partners: &P,
     t: u8,
 ) -> S
-    ensures { (v : ℕ) → S.VariantSet.holds result v ≡ (S.VariantSet.holds so_far v || answers (each_row (P.Partners.paired partners.now)) t (step_of S.VariantSet step) v (step_of S.VariantSet answer)) }
+    ensures { (v : ℕ) → S.VariantSet.holds result v ≡ (S.VariantSet.holds so_far v || answers_into S.VariantSet (P.Partners.paired partners.now) t step answer v) }
 {
     if answer.from == t && answer.action == step.action {
         so_far.either(answer.set.both(partners.with(answer.to)))
@@ -56,7 +56,6 @@ fn joined<S: VariantSet, P: Partners<S>>(
 
 // The variants in which some step of the family from `t` has the action of `step` and enters one of the
 // partners.
-#[tactic(auto, using(crate::proofs::Steps::answered_leaving))]
 pub fn answered<S: VariantSet, P: Partners<S>>(
     step: Step<S>,
     family: &Family<S>,
@@ -65,9 +64,7 @@ pub fn answered<S: VariantSet, P: Partners<S>>(
 ) -> S
     ensures { (v : ℕ) → S.VariantSet.holds result v ≡ answered (model S.VariantSet family.now).steps (each_row (P.Partners.paired partners.now)) t (step_of S.VariantSet step) v }
 {
-    let mut found = S::none();
-    for (_, answer) in family.steps_from(t) {
-        found = joined(found, step, answer, partners, t);
-    }
-    found
+    family.steps_from(t).fold(S::none(), |found, (_, answer)| {
+        joined(found, step, answer, partners, t)
+    })
 }

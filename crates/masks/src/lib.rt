@@ -1,7 +1,8 @@
 #![tactic(auto)]
 
 // The kind of sixty-four variants, one machine word a set.
-ghost use Rattle.std.specs.Prelude.{◌≡◌};
+ghost use Rattle.std.specs.Prelude.{◌≡◌, Some};
+ghost use Rattle.masks.specs.Texts.{set_text};
 ghost use Rattle.masks.specs.Words.{word};
 ghost use Rattle.std.proofs.Common.{rules};
 
@@ -79,12 +80,15 @@ impl VariantSet for Mask {
 
 // The numbers held, in order: `{0,3}`, or `{}` where none is.
 impl fmt::Display for Mask {
+    ghost output = { λ m. Some (set_text m.bits) };
+
     fn fmt<W: fmt::Write>(&self, f: &mut fmt::Formatter<W>) -> fmt::Result {
         write!(f, "{{")?;
-        if let Some(least) = self.least() {
-            write!(f, "{least}")?;
-            for v in (least + 1..Self::size()).filter(|&v| self.has(v)) {
-                write!(f, ",{v}")?;
+        let mut separator = "";
+        for v in 0..Self::size() {
+            if self.has(v) {
+                write!(f, "{separator}{v}")?;
+                separator = ",";
             }
         }
         write!(f, "}}")

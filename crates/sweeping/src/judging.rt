@@ -1,14 +1,9 @@
 // What the rule leaves of a pair.
-ghost use Rattle.std.specs.Prelude.{◌≡◌, ℕ, ◌+◌, ◌≤◌, not, ◌&&◌, ◌||◌};
-ghost use Rattle.theory.specs.Sets.{gone};
-ghost use Rattle.theory.specs.Sweeps.{answered, applies};
-ghost use Rattle.families.specs.Models.{step_of};
-ghost use Rattle.families.specs.Drafts.{model};
 ghost use Rattle.tables.specs.Tables.{standing};
-ghost use Rattle.variants.specs.Kinds.{Countable};
-ghost use Rattle.sweeping.specs.Visits.{keeping};
+ghost use Rattle.sweeping.specs.Judging.{JudgedBy, JudgedFurther, spared, spared_at};
+ghost use Rattle.sweeping.specs.Visits.{rule_of_sides};
 
-use crate::Rule;
+use crate::Sides;
 use answering::{Row, answered};
 use families::Step;
 use tables::Table;
@@ -21,11 +16,9 @@ pub struct Judged<S> {
     pub(crate) strikes: u64,
 }
 
-// `judged` after the left step: without the variants that it holds and in which it is not followed.
-#[tactic(auto, using(crate::proofs::Steps::spared))]
+// `judged` after a left step that the right side follows in the variants of `followed`.
 fn struck<S: VariantSet>(judged: Judged<S>, left: Step<S>, followed: S) -> Judged<S>
-    ensures kept { (v : ℕ) → S.VariantSet.holds result.kept v ≡ (S.VariantSet.holds judged.kept v && (not (S.VariantSet.holds left.set v) || S.VariantSet.holds followed v)) }
-    ensures strikes { Countable S.VariantSet → judged.strikes ≤ 1024 → result.strikes ≡ judged.strikes + gone S.VariantSet.variants (S.VariantSet.holds judged.kept) (S.VariantSet.holds result.kept) }
+    ensures { JudgedFurther S.VariantSet judged (spared (S.VariantSet.holds left.set) (S.VariantSet.holds followed)) result }
 {
     let missing = left.set.without(followed);
     let struck = judged.kept.both(missing);
@@ -35,8 +28,8 @@ fn struck<S: VariantSet>(judged: Judged<S>, left: Step<S>, followed: S) -> Judge
     }
 }
 
-impl<'f, S: VariantSet> Rule<'f, S> {
-    // `judged` after the left step was asked for as a step from `s`.
+impl<'f, S: VariantSet> Sides<'f, S> {
+    // `judged` after the left step, which strikes nothing where it does not leave `s`.
     #[tactic(auto, using(theory::proofs::Cards::gone_nothing, theory::proofs::Rules::answered_row))]
     fn after_step(
         &self,
@@ -46,8 +39,7 @@ impl<'f, S: VariantSet> Rule<'f, S> {
         s: u8,
         t: u8,
     ) -> Judged<S>
-        ensures kept { (v : ℕ) → S.VariantSet.holds result.kept v ≡ (S.VariantSet.holds judged.kept v && (not (applies s v (step_of S.VariantSet left)) || answered (model S.VariantSet self.now.right.now).steps (standing S.VariantSet table.now) t (step_of S.VariantSet left) v)) }
-        ensures strikes { Countable S.VariantSet → judged.strikes ≤ 1024 → result.strikes ≡ judged.strikes + gone S.VariantSet.variants (S.VariantSet.holds judged.kept) (S.VariantSet.holds result.kept) }
+        ensures { JudgedFurther S.VariantSet judged (spared_at S.VariantSet self.now (standing S.VariantSet table.now) s t left) result }
     {
         if left.from != s {
             return judged;
@@ -60,18 +52,15 @@ impl<'f, S: VariantSet> Rule<'f, S> {
     }
 
     // What the rule leaves of the pair of `s` and `t`.
-    #[tactic(auto, using(crate::proofs::Steps::kept_leaving, crate::proofs::Steps::gone_none))]
     pub(crate) fn judge(&self, table: &Table<S>, s: u8, t: u8) -> Judged<S>
-        ensures kept { (v : ℕ) → S.VariantSet.holds result.kept v ≡ (standing S.VariantSet table.now s t v && keeping S.VariantSet self.now (standing S.VariantSet table.now) s t v) }
-        ensures strikes { Countable S.VariantSet → result.strikes ≡ gone S.VariantSet.variants (standing S.VariantSet table.now s t) (S.VariantSet.holds result.kept) }
+        ensures { JudgedBy S.VariantSet (standing S.VariantSet table.now s t) (rule_of_sides S.VariantSet self.now (standing S.VariantSet table.now) s t) result }
     {
-        let mut judged = Judged {
+        let held = Judged {
             kept: table.at(s, t),
             strikes: 0,
         };
-        for (_, step) in self.left.steps_from(s) {
-            judged = self.after_step(judged, table, step, s, t);
-        }
-        judged
+        self.left.steps_from(s).fold(held, |judged, (_, step)| {
+            self.after_step(judged, table, step, s, t)
+        })
     }
 }

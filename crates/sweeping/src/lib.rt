@@ -7,10 +7,10 @@ mod visiting;
 use families::Family;
 pub use visiting::sweep;
 
-// The rule of simulations of two families: a pair keeps the variants in which each step of the left state is
-// answered by a step of the right one.
+// The families of the two sides. By the rule of simulations a pair keeps the variants in which each step of the
+// left state is answered by a step of the right one.
 #[derive(Drop)]
-struct Rule<'f, S> {
+struct Sides<'f, S> {
     left: &'f Family<'f, S>,
     right: &'f Family<'f, S>,
 }

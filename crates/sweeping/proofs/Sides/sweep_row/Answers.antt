@@ -2,15 +2,15 @@ use Rattle.std.proofs.Common.{◌+◌, arith}
 use Rattle.theory.proofs.Sweeps.{row_more, row_struck_more}
 use Rattle.tables.specs.Tables.{standing}
 use Rattle.tables.proofs.Tables.{resembles_trans}
-use Rattle.sweeping.specs.Visits.{keeping}
+use Rattle.sweeping.specs.Visits.{rule_of_sides}
 use Rattle.sweeping.proofs.Visits.{row_struck_fits}
-use Rattle.sweeping.proofs.Rule.sweep_row.Goals as goal
+use Rattle.sweeping.proofs.Sides.sweep_row.Goals as goal
 
 pub loop-t-preserved : goal.loop-t-preserved
 loop-t-preserved g c =
     let K = g.S.VariantSet in
     let V = K.variants in
-    let rule = keeping K c.args.self.now in
+    let rule = rule_of_sides K c.args.self.now in
     let old = c.args.table.now in
     let mid = c.loop-t.table in
     let new = c.visit.new.table in
