@@ -5,6 +5,7 @@ use families::{Step, family_of};
 use histories::{Reply, Request, Stage, Turn, play};
 use lines::{first_left, first_right};
 use masks::Mask;
+use refusals::Refusal;
 
 const REQUESTS: [Request; 9] = [
     Request::Settle,
@@ -19,14 +20,16 @@ const REQUESTS: [Request; 9] = [
 ];
 
 // What a request was answered.
-fn show(rt: &HostRuntime, reply: Reply<Mask>) -> anyhow::Result<()> {
+fn show(rt: &HostRuntime, reply: Result<Reply<Mask>, Refusal>) -> anyhow::Result<()> {
     match reply {
-        Reply::Refused(refusal) => println!(rt; "  refused by {}", refusal.number())?,
-        Reply::Struck(strikes) => println!(rt; "  sweep: {strikes} struck")?,
-        Reply::Ran { sweeps, strikes } => println!(rt; "  run: {sweeps} sweeps, {strikes} struck")?,
-        Reply::Stands(stands) => println!(rt; "  ask: {stands}")?,
-        Reply::Settled => println!(rt; "  settled")?,
-        Reply::Verdict(set) => println!(rt; "  verdict {set}")?,
+        Ok(Reply::Struck(strikes)) => println!(rt; "  sweep: {strikes} struck")?,
+        Ok(Reply::Ran { sweeps, strikes }) => {
+            println!(rt; "  run: {sweeps} sweeps, {strikes} struck")?
+        }
+        Ok(Reply::Stands(stands)) => println!(rt; "  ask: {stands}")?,
+        Ok(Reply::Settled) => println!(rt; "  settled")?,
+        Ok(Reply::Verdict(set)) => println!(rt; "  verdict {set}")?,
+        Err(refusal) => println!(rt; "  refused by {}", refusal.number())?,
     }
     Ok(())
 }

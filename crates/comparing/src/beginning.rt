@@ -11,7 +11,7 @@ use crate::{Comparison, Sweeping};
 use families::Family;
 use refusals::Refusal;
 use tables::{Origin, Table, fill};
-use variants::VariantSet;
+use variants::{LIMIT, VariantSet};
 
 // What a comparison begins with: the list where the labels are equal, else nothing.
 #[derive(Drop)]
@@ -42,10 +42,10 @@ pub fn can_begin<S: VariantSet>(
     ensures answers { plain result ≡ begin_answer S.VariantSet.variants (model S.VariantSet left.now).states (model S.VariantSet right.now).states places }
     ensures grants { OnOk result (Beginnable S.VariantSet left.now right.now places) }
 {
-    if S::size() == 1025 {
+    if S::size() > LIMIT {
         return Err(Refusal::KindTooLarge);
     }
-    if places < usize::from(left.states()) * usize::from(right.states()) {
+    if places < left.pairs_with(right) {
         return Err(Refusal::TableTooShort);
     }
     Ok(())

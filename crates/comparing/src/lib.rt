@@ -19,13 +19,13 @@ pub struct Comparison<'t, S, P = Sweeping> {
 }
 
 // The phase in which a comparison takes sweeps: what the last one struck.
-#[derive(Clone, Copy)]
+#[derive(Clone, Copy, Debug, PartialEq, Eq)]
 pub struct Sweeping {
     last: Option<u64>,
 }
 
 // The phase after a sweep that struck nothing; a comparison in it takes no more sweeps.
-#[derive(Clone, Copy)]
+#[derive(Clone, Copy, Debug, PartialEq, Eq)]
 pub struct Quiet;
 
 // A comparison whose last sweep struck nothing.

@@ -1,5 +1,5 @@
 -- Turn by turn.
-use Rattle.std.proofs.Common.{◌≡◌, ℕ, ◌+◌, ◌*◌, ◌<◌, ◌≤◌, true, List, [], ◌∷◌, ◌++◌, map, length, get_or, take, drop, set, Some, None, Option, sym, refl, ap, ◌∙◌, ap₂, append_assoc, arith, take-append-drop}
+use Rattle.std.proofs.Common.{◌≡◌, ℕ, ◌+◌, ◌*◌, ◌<◌, ◌≤◌, true, List, [], ◌∷◌, ◌++◌, map, length, get_or, take, drop, set, Some, None, Option, Result, sym, refl, ap, ◌∙◌, ap₂, append_assoc, arith, take-append-drop}
 use Rattle.std.proofs.lemmas.List.{append-nil, map-set, set-get_or, get_or-map, take_more_set, take-take, drop-drop, drop-set-lt, drop_more, length-set, drop_all}
 use Rattle.theory.specs.Systems as theory
 use Rattle.theory.specs.Answers.{Answer}
@@ -8,6 +8,7 @@ use Rattle.theory.specs.Histories.{frame_of, SameFamilies, Led, at_once, then}
 use Rattle.theory.proofs.Histories.{comparing_is_exact, led_on, led_before}
 use Rattle.variants.specs.declared.VariantSet.{Ghosts as Kind}
 use Rattle.variants.specs.Kinds.{Countable}
+use Rattle.refusals.specs.declared.Refusal.{Refusal}
 use Rattle.families.specs.declared.Family.{Family}
 use Rattle.families.specs.Drafts.{model}
 use Rattle.tables.specs.declared.Table.{Table}
@@ -56,7 +57,7 @@ module _ {S : Type 0} (K : Kind S) (L R : theory.Family) where
       ap (told K L R) (sym (take-append-drop k (take n xs))) ∙ rw (told_append (take k (take n xs)) (drop k (take n xs)), take-take)
 
 -- one turn of a list has its answer written
-requests_kept : {S : Type 0} (xs : List (Turn S)) (i : ℕ) (x : Turn S) (r : Option (Reply S)) → i < length xs → x ≡ get_or xs i x →
+requests_kept : {S : Type 0} (xs : List (Turn S)) (i : ℕ) (x : Turn S) (r : Option (Result (Reply S) Refusal)) → i < length xs → x ≡ get_or xs i x →
     map (λ y. y.request) (set xs i (record { request = x.request; reply = r })) ≡ map (λ y. y.request) xs
 requests_kept {S} xs i x r l read =
     map-set (λ (y : Turn S). y.request) xs i (record { request = x.request; reply = r })
@@ -74,6 +75,10 @@ pub record SoFar {S : Type 0} (K : Kind S) (left right : Family S) (before : Sta
   pub leads : Countable K → Led (stage_frame K before) (model K left) (model K right) (stage_moment K before) (told K (model K left) (model K right) (take done after)) (stage_moment K reached)
 
 module _ {S : Type 0} (K : Kind S) (left right : Family S) where
+  -- a request that changes nothing
+  pub unchanged : (stage : Stage S) (x : Request) (r : Option (Result (Reply S) Refusal)) → Replies K left right stage x stage r → TakesOne K left right stage x (record { stage = stage; reply = r })
+  unchanged stage x r h = record { room = room_refl (stage_table stage); frame = refl; replies = h }
+
   abbrev L : theory.Family
   L = model K left
 
@@ -132,7 +137,7 @@ module _ {S : Type 0} (K : Kind S) (left right : Family S) where
                 cc
 
         -- the next one is done
-        pub one_more : (r : Reply S) → t.reply ≡ Some r → SoFar K left right before turns (set after done (record { request = x.request; reply = Some r })) (done + 1) t.stage
+        pub one_more : (r : Result (Reply S) Refusal) → t.reply ≡ Some r → SoFar K left right before turns (set after done (record { request = x.request; reply = Some r })) (done + 1) t.stage
         one_more r e =
             let y : Turn S = record { request = x.request; reply = Some r } in
             let h : Replies K left right reached x.request t.stage (Some r) = rw e at taken.replies in

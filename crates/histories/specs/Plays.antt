@@ -1,24 +1,28 @@
 -- What becomes of requests.
-use Rattle.std.specs.Prelude.{◌≡◌, ℕ, ◌≤◌, List, ◌∷◌, ◌++◌, map, length, take, drop, Some, None, Option}
+use Rattle.std.specs.Prelude.{◌≡◌, ℕ, ◌≤◌, List, ◌∷◌, ◌++◌, map, length, take, drop, Some, None, Option, Result}
 use Rattle.theory.specs.Calls.{Moment, Does, Takes}
 use Rattle.theory.specs.Histories.{frame_of, Led, History, Promised}
 use Rattle.theory.specs.Histories as theory
 use Rattle.variants.specs.declared.VariantSet.{Ghosts as Kind}
 use Rattle.variants.specs.Kinds.{Countable}
+use Rattle.refusals.specs.declared.Refusal.{Refusal}
 use Rattle.families.specs.declared.Family.{Family}
 use Rattle.families.specs.Drafts.{model}
+use Rattle.comparing.specs.declared.Comparison.{Comparison}
+use Rattle.comparing.specs.declared.Sweeping.{Sweeping}
 use Rattle.histories.specs.declared.Request.{Request}
 use Rattle.histories.specs.declared.Reply.{Reply}
 use Rattle.histories.specs.declared.Turn.{Turn}
 use Rattle.histories.specs.declared.Stage.{Stage}
+use Rattle.histories.specs.declared.Stage.TheVariants.{Open}
 use Rattle.histories.specs.declared.Taken.{Taken}
 use Rattle.histories.specs.declared.Played.{Played}
 use Rattle.histories.specs.Turns.{call_of, reply_answer, told}
 use Rattle.histories.specs.Stages.{stage_table, stage_frame, stage_moment, RoomKept}
 
 module _ {S : Type 0} (K : Kind S) (left right : Family S) where
-  -- a reply is the outcome of the request; without one the comparison does not take it as it stands, and is what it was
-  abbrev pub Replies : Stage S → Request → Stage S → Option (Reply S) → Type 0
+  -- an answer is the outcome of the request; without one the comparison does not take it as it stands, and is what it was
+  abbrev pub Replies : Stage S → Request → Stage S → Option (Result (Reply S) Refusal) → Type 0
   Replies before x after None =
       (Takes (stage_moment K before) (call_of (model K left) (model K right) x) → ⊥) × (stage_moment K after ≡ stage_moment K before)
   Replies before x after (Some r) =
@@ -29,6 +33,10 @@ module _ {S : Type 0} (K : Kind S) (left right : Family S) where
     pub room : RoomKept (stage_table before) (stage_table t.stage)
     pub frame : stage_frame K t.stage ≡ stage_frame K before
     pub replies : Replies before x t.stage t.reply
+
+  -- one request, answered, after which the comparison still takes sweeps
+  abbrev pub StaysOpen : Comparison S Sweeping → Request → Result (Reply S) Refusal → Comparison S Sweeping → Type 0
+  StaysOpen before x r after = TakesOne (Open before) x (record { stage = Open after; reply = Some r })
 
   -- whatever history led to the moment, the turns lead on from it to a moment that keeps what is promised
   abbrev pub KeepsPromises : Moment → List theory.Turn → Type 0

@@ -1,12 +1,14 @@
 -- Requests and replies in the words of the theory.
-use Rattle.std.specs.Prelude.{cond, List, [], ◌∷◌, ◌++◌, Some, None, Option}
+use Rattle.std.specs.Prelude.{ℕ, cond, List, [], ◌∷◌, ◌++◌, Some, None, Option, Result}
 use Rattle.theory.specs.Sets.{members}
 use Rattle.theory.specs.Systems.{Family}
-use Rattle.theory.specs.Answers.{Answer, granted, refused}
-use Rattle.theory.specs.Calls.{Call, sweep, run, ask, settle, verdict}
+use Rattle.theory.specs.Answers.{Answer, refused}
+use Rattle.theory.specs.Calls.{Frame, Moment, Does, Call, sweep, run, ask, settle, verdict}
 use Rattle.theory.specs.Histories as theory
 use Rattle.variants.specs.declared.VariantSet.{Ghosts as Kind}
-use Rattle.refusals.specs.Numbers.{number_of}
+use Rattle.variants.specs.Kinds.{Countable}
+use Rattle.refusals.specs.declared.Refusal.{Refusal}
+use Rattle.refusals.specs.Numbers.{answer}
 use Rattle.histories.specs.declared.Request.{Request}
 use Rattle.histories.specs.declared.Request.TheVariants.{Sweep, Run, Ask, Settle, Verdict}
 use Rattle.histories.specs.declared.Reply.{Reply}
@@ -27,16 +29,23 @@ unanswered = refused 255
 
 module _ {S : Type 0} (K : Kind S) where
   -- a reply as numbers: yes is 1 and no is 0, a verdict is the list of its variants
-  abbrev pub reply_answer : Reply S → Answer
-  reply_answer (reply.Refused e) = refused (number_of e)
-  reply_answer (reply.Struck k) = granted (k ∷ [])
-  reply_answer (reply.Ran j k) = granted (j ∷ k ∷ [])
-  reply_answer (reply.Stands b) = granted (cond b 1 0 ∷ [])
-  reply_answer reply.Settled = granted []
-  reply_answer (reply.Verdict x) = granted (members K.variants (K.holds x))
+  abbrev pub values : Reply S → List ℕ
+  values (reply.Struck k) = k ∷ []
+  values (reply.Ran j k) = j ∷ k ∷ []
+  values (reply.Stands b) = cond b 1 0 ∷ []
+  values reply.Settled = []
+  values (reply.Verdict x) = members K.variants (K.holds x)
+
+  -- what a request is answered: its reply, or the number by which it is refused
+  abbrev pub reply_answer : Result (Reply S) Refusal → Answer
+  reply_answer = answer values
+
+  -- the outcome of ask, which changes nothing
+  abbrev pub Asks : Frame → Moment → (s t v : ℕ) → Result (Reply S) Refusal → Type 0
+  Asks f m s t v r = Countable K → Does f m (ask s t v) (reply_answer r) m
 
   -- the answer that stands beside a request
-  abbrev pub answer_beside : Option (Reply S) → Answer
+  abbrev pub answer_beside : Option (Result (Reply S) Refusal) → Answer
   answer_beside None = unanswered
   answer_beside (Some r) = reply_answer r
 

@@ -2,13 +2,14 @@
 
 // Histories: requests to a comparison, carried out in order, each with its answer beside it.
 mod playing;
+mod replying;
 
 use comparing::{Comparison, Settled};
 pub use playing::play;
 use refusals::Refusal;
 
 // What a comparison is asked to do.
-#[derive(Clone, Copy)]
+#[derive(Clone, Copy, Debug, PartialEq, Eq)]
 pub enum Request {
     Sweep,
     Run(u32),
@@ -17,10 +18,9 @@ pub enum Request {
     Verdict,
 }
 
-// What it answers.
-#[derive(Clone, Copy)]
+// What it answers where it does not refuse.
+#[derive(Clone, Copy, Debug, PartialEq, Eq)]
 pub enum Reply<S> {
-    Refused(Refusal),
     Struck(u64),
     Ran { sweeps: u32, strikes: u64 },
     Stands(bool),
@@ -29,10 +29,10 @@ pub enum Reply<S> {
 }
 
 // A request, and the answer beside it once it was given.
-#[derive(Clone, Copy)]
+#[derive(Clone, Copy, Debug, PartialEq, Eq)]
 pub struct Turn<S> {
     pub request: Request,
-    pub reply: Option<Reply<S>>,
+    pub reply: Option<Result<Reply<S>, Refusal>>,
 }
 
 // A comparison, settled or not.
@@ -46,7 +46,7 @@ pub enum Stage<'t, S> {
 #[derive(Drop)]
 pub struct Taken<'t, S> {
     pub stage: Stage<'t, S>,
-    pub reply: Option<Reply<S>>,
+    pub reply: Option<Result<Reply<S>, Refusal>>,
 }
 
 // How many requests were done, and the comparison that they led to.

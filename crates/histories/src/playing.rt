@@ -3,6 +3,7 @@ ghost use Rattle.histories.specs.declared.Stage.TheVariants as stage;
 ghost use Rattle.families.specs.declared.Family.{Family};
 ghost use Rattle.histories.specs.Plays.{TakesOne, Plays};
 
+use crate::replying::{ask, run, sweep};
 use crate::{Played, Reply, Request, Stage, Taken, Turn};
 use comparing::{Comparison, Settled};
 use families::Family;
@@ -18,26 +19,17 @@ fn take_open<'t, S: VariantSet>(
     ensures { TakesOne S.VariantSet left.now right.now (stage.Open comparison.entry) request result }
 {
     let reply = match request {
-        Request::Sweep => match comparison.sweep(left, right) {
-            Ok(strikes) => Some(Reply::Struck(strikes)),
-            Err(refusal) => Some(Reply::Refused(refusal)),
-        },
-        Request::Run(budget) => match comparison.run(budget, left, right) {
-            Ok((sweeps, strikes)) => Some(Reply::Ran { sweeps, strikes }),
-            Err(refusal) => Some(Reply::Refused(refusal)),
-        },
-        Request::Ask { s, t, v } => match comparison.ask(s, t, v) {
-            Ok(stands) => Some(Reply::Stands(stands)),
-            Err(refusal) => Some(Reply::Refused(refusal)),
-        },
+        Request::Sweep => Some(sweep(&mut comparison, left, right)),
+        Request::Run(budget) => Some(run(&mut comparison, budget, left, right)),
+        Request::Ask { s, t, v } => Some(ask(&comparison, s, t, v)),
         Request::Settle => match comparison.can_settle() {
             Ok(()) => {
                 return Taken {
                     stage: Stage::Settled(comparison.settle()),
-                    reply: Some(Reply::Settled),
+                    reply: Some(Ok(Reply::Settled)),
                 };
             }
-            Err(refusal) => Some(Reply::Refused(refusal)),
+            Err(refusal) => Some(Err(refusal)),
         },
         Request::Verdict => None,
     };
@@ -52,11 +44,8 @@ fn take_settled<'t, S: VariantSet>(settled: Settled<'t, S>, request: Request) ->
     ensures { (left right : Family S) → TakesOne S.VariantSet left right (stage.Settled settled.entry) request result }
 {
     let reply = match request {
-        Request::Ask { s, t, v } => match settled.ask(s, t, v) {
-            Ok(stands) => Some(Reply::Stands(stands)),
-            Err(refusal) => Some(Reply::Refused(refusal)),
-        },
-        Request::Verdict => Some(Reply::Verdict(settled.verdict())),
+        Request::Ask { s, t, v } => Some(ask(&settled, s, t, v)),
+        Request::Verdict => Some(Ok(Reply::Verdict(settled.verdict()))),
         Request::Sweep | Request::Run(_) | Request::Settle => None,
     };
     Taken {
