@@ -28,10 +28,11 @@ impl<'h, S: VariantSet> View<'h, S> {
     pub fn at(&self, own: u8, other: u8) -> S
         ensures { (v : ℕ) → S.VariantSet.holds result v ≡ seen S.VariantSet self.now own other v }
     {
-        match self.side {
-            Side::Left => self.grid.at(own, other),
-            Side::Right => self.grid.at(other, own),
-        }
+        let (s, t) = match self.side {
+            Side::Left => (own, other),
+            Side::Right => (other, own),
+        };
+        self.grid.at(s, t)
     }
 }
 
@@ -88,11 +89,9 @@ impl<'p, S: VariantSet> Position<'p, S> {
     fn followed(&self, step: Step<S>) -> S
         ensures { (v : ℕ) → S.VariantSet.holds result v ≡ followed_by S.VariantSet self.now step v }
     {
-        let mut found = S::none();
-        for r in 0..self.follower.states() {
-            found = found.either(self.by_way_of(step, r));
-        }
-        found
+        (0..self.follower.states()).fold(S::none(), |found, r| {
+            found.either(self.by_way_of(step, r))
+        })
     }
 
     // The least variant in which the step leaves `own`, is held at the pair and not followed.

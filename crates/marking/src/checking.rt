@@ -1,13 +1,13 @@
 // Marking, refusals first.
 ghost use Rattle.std.specs.Prelude.{◌≡◌, ℕ, ◌≤◌, true, length, Decides, MatchResult};
 ghost use Rattle.refusals.specs.Numbers.{number_of};
-ghost use Rattle.marking.specs.Marks.{OnlyListed, pairs, both_places, Markable, Refused, ReachedBoth, Marks, Refuses};
+ghost use Rattle.marking.specs.Marks.{OnlyListed, both_places, Markable, Refused, ReachedBoth, Marks, Refuses};
 
 use crate::{Marked, Marking};
 use families::Family;
 use reaching::{places, reach};
 use refusals::Refusal;
-use variants::VariantSet;
+use variants::{LIMIT, VariantSet};
 
 // Whether every variant of the set is listed.
 fn is_listed<S: VariantSet>(set: S, list: S) -> bool
@@ -21,13 +21,6 @@ fn only_listed<S: VariantSet>(cells: &[S], list: S) -> bool
     ensures { Decides result (OnlyListed S.VariantSet list cells.now) }
 {
     cells.iter().all(|set| is_listed(*set, list))
-}
-
-// How many pairs of states there are.
-fn pairs<S: VariantSet>(left: &Family<S>, right: &Family<S>) -> usize
-    ensures { result ≡ pairs S.VariantSet left.now right.now }
-{
-    usize::from(left.states()) * usize::from(right.states())
 }
 
 // How many places both reaches take.
@@ -47,10 +40,10 @@ fn can_mark<S: VariantSet>(
 ) -> Result<(), Refusal>
     ensures { MatchResult result (λ _. Markable S.VariantSet left.now right.now list candidate.now scratch) (λ e. Refused S.VariantSet left.now right.now list candidate.now scratch (number_of e)) }
 {
-    if S::size() == 1025 {
+    if S::size() > LIMIT {
         return Err(Refusal::KindTooLarge);
     }
-    let pairs = pairs(left, right);
+    let pairs = left.pairs_with(right);
     if candidate.len() < pairs {
         return Err(Refusal::TableTooShort);
     }

@@ -122,7 +122,7 @@ impl<'m, S: VariantSet> Marking<'m, S> {
     }
 
     // The first fault of a side's steps at the pair.
-    fn side(&self, side: Side, s: u8, t: u8) -> Marked
+    fn side_fault(&self, side: Side, s: u8, t: u8) -> Marked
         ensures { JudgesSide S.VariantSet self.now (side_of side) s t result }
     {
         match unfollowed(&self.position(side, s, t), self.mover(side)) {
@@ -132,28 +132,28 @@ impl<'m, S: VariantSet> Marking<'m, S> {
     }
 
     // The first fault at the pair.
-    fn pair(&self, s: u8, t: u8) -> Marked
+    fn pair_fault(&self, s: u8, t: u8) -> Marked
         ensures { JudgesPair S.VariantSet self.now s t result }
     {
-        self.side(Side::Left, s, t)?;
-        self.side(Side::Right, s, t)
+        self.side_fault(Side::Left, s, t)?;
+        self.side_fault(Side::Right, s, t)
     }
 
     // The first fault at any pair.
     #[tactic(auto, using(crate::proofs::Walks::clear_row))]
-    fn walk(&self) -> Marked
+    fn pairs_fault(&self) -> Marked
         ensures { JudgesPairs S.VariantSet self.now result }
     {
         for s in 0..self.left.states() {
             for t in 0..self.right.states() {
-                self.pair(s, t)?;
+                self.pair_fault(s, t)?;
             }
         }
         Ok(())
     }
 
     // The fault of the pair of starts, at the least listed variant that it lacks.
-    fn starts(&self, list: S) -> Marked
+    fn start_fault(&self, list: S) -> Marked
         ensures { JudgesStarts S.VariantSet self.now list result }
     {
         let left = self.left.start();
@@ -176,7 +176,7 @@ impl<'m, S: VariantSet> Marking<'m, S> {
     pub(crate) fn judge(&self, list: S) -> Marked
         ensures { Judges S.VariantSet self.now list result }
     {
-        self.starts(list)?;
-        self.walk()
+        self.start_fault(list)?;
+        self.pairs_fault()
     }
 }

@@ -1,7 +1,7 @@
 use Rattle.std.proofs.Common.{Ok}
 use Rattle.theory.specs.Marks.{left, at_step}
 use Rattle.marking.specs.Judgements.{FindsBetween}
-use Rattle.marking.proofs.Marking.walk.Given as goal
+use Rattle.marking.proofs.Marking.pairs_fault.Given as goal
 
 abbrev pub invariant-loop-s : goal.invariant-loop-s
 invariant-loop-s g l = FindsBetween g.S.VariantSet l.self (at_step left 0 0 0) (at_step left l.s 0 0) (Ok tt)

@@ -3,7 +3,7 @@ use Rattle.following.specs.Views.{side_of}
 use Rattle.marking.specs.Faults.{rule_number}
 use Rattle.marking.specs.Judgements.{left_of, right_of, candidate_of}
 use Rattle.marking.proofs.Pairs.{side_clear, side_faulty, side_judged}
-use Rattle.marking.proofs.Marking.side.Goals as goal
+use Rattle.marking.proofs.Marking.side_fault.Goals as goal
 
 pub returns-in-Some : goal.returns-in-Some
 returns-in-Some g c ls lt few reached listed clear =

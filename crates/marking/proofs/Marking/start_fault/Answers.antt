@@ -1,5 +1,5 @@
 use Rattle.marking.proofs.Starts.{starts_clear, starts_faulty}
-use Rattle.marking.proofs.Marking.starts.Goals as goal
+use Rattle.marking.proofs.Marking.start_fault.Goals as goal
 
 pub returns-in-Some : goal.returns-in-Some
 returns-in-Some g c few =
