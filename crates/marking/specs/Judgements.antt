@@ -1,5 +1,5 @@
 -- What is found at a pair, and from pair to pair.
-use Rattle.std.specs.Prelude.{◌≡◌, ℕ, ◌+◌, ◌<◌, List, Some, None, Option, MatchResult}
+use Rattle.std.specs.Prelude.{◌≡◌, ℕ, ◌+◌, ◌<◌, List, Some, None, Option, MatchOption, MatchResult}
 use Rattle.theory.specs.Sets.{Variants}
 use Rattle.theory.specs.Systems as theory
 use Rattle.theory.specs.Tables.{Table}
@@ -9,13 +9,14 @@ use Rattle.theory.specs.Reach.{Reaches}
 use Rattle.theory.specs.Judgements.{ReachRow, AllFollowed, FirstUnfollowed, Clear}
 use Rattle.variants.specs.declared.VariantSet.{Ghosts as Kind}
 use Rattle.variants.specs.Kinds.{Countable}
+use Rattle.families.specs.declared.parts.Step.{Step}
 use Rattle.families.specs.declared.Family.{Family}
 use Rattle.families.specs.Drafts.{model}
 use Rattle.tables.specs.Cells.{cell, grid}
 use Rattle.tables.specs.Tables.{shown}
 use Rattle.reaching.specs.Reaches.{reach_of}
 use Rattle.following.specs.declared.Position.{Position}
-use Rattle.following.specs.Views.{seen, follower_of}
+use Rattle.following.specs.Views.{seen, follower_of, Lacks}
 use Rattle.marking.specs.declared.judging.Lapse.{Lapse}
 use Rattle.marking.specs.declared.Marking.{Marking}
 use Rattle.marking.specs.Faults.{Marked, fault_answer, marked_answer}
@@ -35,6 +36,10 @@ after left s t = at_step right s t 0
 after right s t = at_step left s (t + 1) 0
 
 module _ {S : Type 0} (K : Kind S) where
+  -- the lapse that the step x at a place is, if it is not followed from the position
+  abbrev pub LapsesAt : Position S → ℕ → Step S → Option Lapse → Type 0
+  LapsesAt p place x r = MatchOption r (Lacks K p x None) (λ l. (l.step ≡ place) × Lacks K p x (Some l.variant))
+
   -- the judgement of a mover's steps at a position, if its reach is the follower's from the other state
   abbrev pub JudgesSteps : Position S → Family S → Option Lapse → Type 0
   JudgesSteps p mover r =

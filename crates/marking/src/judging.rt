@@ -5,10 +5,10 @@ ghost use Rattle.theory.specs.Marks.{mover};
 ghost use Rattle.families.specs.Drafts.{model};
 ghost use Rattle.following.specs.Views.{side_of};
 ghost use Rattle.marking.specs.Faults.{rule_number, fault_answer};
-ghost use Rattle.marking.specs.Judgements.{left_of, right_of, Reads, Stands, JudgesSteps, JudgesSide, JudgesPair, JudgesPairs, JudgesStarts, Judges};
+ghost use Rattle.marking.specs.Judgements.{left_of, right_of, Reads, Stands, LapsesAt, JudgesSteps, JudgesSide, JudgesPair, JudgesPairs, JudgesStarts, Judges};
 
 use crate::{Fault, Marked, Marking, Rule};
-use families::Family;
+use families::{Family, Step};
 use following::{Position, Side, View};
 use tables::Grid;
 use variants::VariantSet;
@@ -35,20 +35,24 @@ impl Lapse {
     }
 }
 
+// The lapse that the step at a place is, if it is not followed from the position.
+fn lapse_at<S: VariantSet>(position: &Position<S>, place: usize, step: Step<S>) -> Option<Lapse>
+    ensures { LapsesAt S.VariantSet position.now place step result }
+{
+    let variant = position.lacking(step)?;
+    Some(Lapse {
+        step: place,
+        variant,
+    })
+}
+
 // The first step of the mover that is not followed from the position.
-#[tactic(auto, using(crate::proofs::Steps::none_yet))]
 fn unfollowed<S: VariantSet>(position: &Position<S>, mover: &Family<S>) -> Option<Lapse>
     ensures { JudgesSteps S.VariantSet position.now mover.now result }
 {
-    for (place, step) in mover.steps_from(position.own) {
-        if let Some(variant) = position.lacking(step) {
-            return Some(Lapse {
-                step: place,
-                variant,
-            });
-        }
-    }
-    None
+    mover
+        .steps_from(position.own)
+        .find_map(|(place, step)| lapse_at(position, place, step))
 }
 
 impl<'m, S: VariantSet> Marking<'m, S> {
