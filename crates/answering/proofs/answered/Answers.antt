@@ -15,5 +15,5 @@ returns g c v =
     let y = step_of K c.args.step in
     fold_over (YieldsFirst (λ rest. rest)) (λ p. p) _ (λ ps a. K.holds a v ≡ answered_by K T c.args.t y v ps) _
     (λ ps a p b f' so_far k. (search rules ∙ sym (answered_more K T c.args.t y v ps p), search rules))
-    _ _ _ _ (YieldsList-from_first (λ p. p) (λ rest. rest) _ c.steps_from.ensures).runs (c.none.ensures v) c.fold.ensures.ran
+    _ _ _ _ (YieldsList-from_first (λ p. p) (λ rest. rest) _ c.steps_from.ensures).runs (search rules) c.fold.ensures.ran
     ∙ answered_leaving K T c.args.t y v _ 0

@@ -20,5 +20,5 @@ returns g c =
     (λ ps a p b f' so_far k.
     let one : JudgedFurther K a (spared_at K c.args.self.now T s t p.1) b = search rules in
     (judged_same K (T s t) _ _ b (λ v. sym (kept_more K rs T s t v ps p)) (judged_more K (T s t) _ _ a b so_far one), search rules))
-    _ _ _ _ (YieldsList-from_first (λ p. p) (λ rest. rest) _ c.steps_from.ensures).runs (judged_not K (T s t) c.at.result c.at.ensures) c.fold.ensures.ran in
+    _ _ _ _ (YieldsList-from_first (λ p. p) (λ rest. rest) _ c.steps_from.ensures).runs (search (rules, judged_not)) c.fold.ensures.ran in
     judged_same K (T s t) _ _ c.fold.result (λ v. kept_leaving K rs T s t v _ 0) all
