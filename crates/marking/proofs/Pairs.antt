@@ -6,7 +6,6 @@ use Rattle.theory.specs.Systems as theory
 use Rattle.theory.specs.Tables.{Table}
 use Rattle.theory.specs.Answers.{granted}
 use Rattle.theory.specs.Bisimulations.{Silently}
-use Rattle.theory.specs.Reach.{Reaches}
 use Rattle.theory.specs.Marks.{Side, left, right, mover, follower, own, other, facing, at_starts, at_step, of_step, kind_of}
 use Rattle.theory.specs.Marks as marks
 use Rattle.theory.specs.Judgements.{ReachRow, AllFollowed, FirstUnfollowed, Clear}
@@ -23,7 +22,7 @@ use Rattle.marking.specs.declared.judging.Lapse.{Lapse}
 use Rattle.marking.specs.declared.Marking.{Marking}
 use Rattle.marking.specs.declared.Fault.{Fault}
 use Rattle.marking.specs.Faults.{fault_answer}
-use Rattle.marking.specs.Judgements.{Lapsed, after, left_of, right_of, candidate_of, reach_by, Stands, BothReached, JudgesSteps}
+use Rattle.marking.specs.Judgements.{Lapsed, after, left_of, right_of, candidate_of, reach_by, Stands, RowsReached, JudgesSteps}
 
 -- the judgement of a side's steps, and what comes after it
 module _ (L R : theory.Family) (listed : Variants) (H : Table) (s t : ℕ) where
@@ -62,14 +61,14 @@ module _ {S : Type 0} (K : Kind S) (m : Marking S) (side : Side) (s t : ℕ) (p 
   follower_inside left ls lt = lt
   follower_inside right ls lt = ls
 
-  follower_reached : (q : Side) → BothReached K m → Reaches K.variants (follower q L R) (reach_by K m q)
-  follower_reached left reached = reached.of_right
-  follower_reached right reached = reached.of_left
+  follower_reached : (q : Side) → RowsReached K m s t → ReachRow K.variants (follower q L R) (other q s t) (reach_by K m q (other q s t))
+  follower_reached left rows = rows.of_right
+  follower_reached right rows = rows.of_left
 
-  row_reached : BothReached K m → s < L.states → t < R.states → ReachRow K.variants (follower side L R) (other side s t) (cell K p.reach.now)
-  row_reached reached ls lt j v lj lv =
+  row_reached : RowsReached K m s t → ReachRow K.variants (follower side L R) (other side s t) (cell K p.reach.now)
+  row_reached rows j v lj lv =
       subst (λ (b : _). (b ≡ true) ↔ Silently (machine (follower side L R) v) (other side s t) j) (sym (stands.reaches j v))
-      (follower_reached side reached (other side s t) j v (follower_inside side ls lt) lj lv)
+      (follower_reached side rows j v lj lv)
 
   module _ (family : Family S) (moves : model K family ≡ mover side L R) where
     lapsed : (r : Option Lapse) → Lapsed (follower_of K p) (seen K p.view) p.own p.other (model K family).steps r →
@@ -79,10 +78,10 @@ module _ {S : Type 0} (K : Kind S) (m : Marking S) (side : Side) (s t : ℕ) (p 
         (subst₂ (λ (a b : ℕ). Lapsed (follower_of K p) (seen K p.view) a b (mover side L R).steps r) stands.is_own stands.is_other
         (subst (λ (F : theory.Family). Lapsed (follower_of K p) (seen K p.view) p.own p.other F.steps r) moves h))
 
-    pub side_judged : (r : Option Lapse) → JudgesSteps K p family r → Countable K → BothReached K m → s < L.states → t < R.states →
+    pub side_judged : (r : Option Lapse) → JudgesSteps K p family r → Countable K → s < L.states → t < R.states → RowsReached K m s t →
         Lapsed (follower side L R) (facing side (candidate_of K m)) (own side s t) (other side s t) (mover side L R).steps r
-    side_judged r judged few reached ls lt =
+    side_judged r judged few ls lt rows =
         lapsed r
         (judged few
         (subst₂ (λ (F : theory.Family) (a : ℕ). a < F.states) (sym stands.follows) (sym stands.is_other) (follower_inside side ls lt))
-        (subst₂ (λ (F : theory.Family) (a : ℕ). ReachRow K.variants F a (cell K p.reach.now)) (sym stands.follows) (sym stands.is_other) (row_reached reached ls lt)))
+        (subst₂ (λ (F : theory.Family) (a : ℕ). ReachRow K.variants F a (cell K p.reach.now)) (sym stands.follows) (sym stands.is_other) (row_reached rows)))

@@ -1,7 +1,7 @@
 -- The start rule.
-use Rattle.std.proofs.Common.{◌≡◌, ℕ, ◌<◌, Bool, true, not, ◌&&◌, [], ◌∷◌, Some, None, sym, ap, ◌∙◌, subst₂, ap₂}
+use Rattle.std.proofs.Common.{◌≡◌, ℕ, ◌<◌, Bool, true, not, ◌&&◌, [], ◌∷◌, Some, None, ap, ◌∙◌, ap₂}
 use Rattle.theory.specs.Answers.{granted}
-use Rattle.theory.specs.Marks.{Marked, left, at_step}
+use Rattle.theory.specs.Marks.{Marked, left, at_starts, at_step, fault}
 use Rattle.theory.specs.Judgements.{Clear}
 use Rattle.theory.proofs.Clearing.{clear_starts, starts_fault, lacks_none, lacks_some}
 use Rattle.variants.specs.declared.VariantSet.{Ghosts as Kind}
@@ -22,8 +22,9 @@ module _ {S : Type 0} (K : Kind S) (law : (x : S) (v : ℕ) → K.holds x v ≡ 
       clear_starts (left_of K m) (right_of K m) (K.holds list) (candidate_of K m)
       (lacks_none K.variants few (K.holds list) (candidate_of K m (left_of K m).start (right_of K m).start) (K.holds lacking) (law list) is least)
 
-  pub starts_faulty : (v : ℕ) → Least (K.holds lacking) (Some v) → Marked (left_of K m) (right_of K m) (K.holds list) (candidate_of K m) (granted (1 ∷ s ∷ t ∷ 0 ∷ v ∷ []))
+  pub starts_faulty : (v : ℕ) → Least (K.holds lacking) (Some v) →
+      (granted (1 ∷ s ∷ t ∷ 0 ∷ v ∷ []) ≡ fault (left_of K m) (right_of K m) (K.holds list) (candidate_of K m) at_starts v)
+      × Marked (left_of K m) (right_of K m) (K.holds list) (candidate_of K m) (fault (left_of K m) (right_of K m) (K.holds list) (candidate_of K m) at_starts v)
   starts_faulty v least =
       let f = lacks_some K.variants few (K.holds list) (candidate_of K m (left_of K m).start (right_of K m).start) (K.holds lacking) (law list) is v least.1 least.2 in
-      subst₂ (λ (a b : ℕ). Marked (left_of K m) (right_of K m) (K.holds list) (candidate_of K m) (granted (1 ∷ a ∷ b ∷ 0 ∷ v ∷ []))) (sym es) (sym et)
-      (starts_fault (left_of K m) (right_of K m) (K.holds list) (candidate_of K m) v f.0 f.1 f.2)
+      (ap₂ (λ (a b : ℕ). granted (1 ∷ a ∷ b ∷ 0 ∷ v ∷ [])) es et, starts_fault (left_of K m) (right_of K m) (K.holds list) (candidate_of K m) v f.0 f.1 f.2)

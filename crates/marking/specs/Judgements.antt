@@ -3,7 +3,7 @@ use Rattle.std.specs.Prelude.{◌≡◌, ℕ, ◌+◌, ◌<◌, List, Some, None
 use Rattle.theory.specs.Sets.{Variants}
 use Rattle.theory.specs.Systems as theory
 use Rattle.theory.specs.Tables.{Table}
-use Rattle.theory.specs.Marks.{Side, left, right, follower, own, other, facing, Spot, at_step}
+use Rattle.theory.specs.Marks.{Side, left, right, follower, own, other, facing, Spot, at_starts, at_step, fault}
 use Rattle.theory.specs.Marks as marks
 use Rattle.theory.specs.Reach.{Reaches}
 use Rattle.theory.specs.Judgements.{ReachRow, AllFollowed, FirstUnfollowed, Clear}
@@ -29,6 +29,12 @@ Lapsed F H s t xs (Some l) = FirstUnfollowed F H s t xs l.step l.variant
 -- accepted if everything before the spot passes, else the first fault
 abbrev pub Found : theory.Family → theory.Family → Variants → Table → Spot → Marked → Type 0
 Found L R listed H p r = MatchResult r (λ _. Clear L R listed H p) (λ f. marks.Marked L R listed H (fault_answer f))
+
+-- accepted if the starts pass, else the fault of the start rule at the starts, in the least variant that fails there, and it is the first
+abbrev pub StartFound : theory.Family → theory.Family → Variants → Table → Marked → Type 0
+StartFound L R listed H r =
+    MatchResult r (λ _. Clear L R listed H (at_step left 0 0 0))
+    (λ f. (fault_answer f ≡ fault L R listed H at_starts f.variant) × marks.Marked L R listed H (fault L R listed H at_starts f.variant))
 
 -- the spot that follows a side's steps at a pair
 abbrev pub after : Side → ℕ → ℕ → Spot
@@ -87,27 +93,32 @@ module _ {S : Type 0} (K : Kind S) where
       pub of_left : Reaches K.variants left_of (shown K m.left_reach)
       pub of_right : Reaches K.variants right_of (shown K m.right_reach)
 
+    -- the memory holds the two rows of the pair: the left family's reach from s, and the right family's from t
+    pub record RowsReached (s t : ℕ) : Type 0 where
+      pub of_left : ReachRow K.variants left_of s (shown K m.left_reach s)
+      pub of_right : ReachRow K.variants right_of t (shown K m.right_reach t)
+
     -- if everything before p passes, what is found up to q
     abbrev pub FindsBetween : Spot → Spot → Marked → Type 0
-    FindsBetween p q r =
-        Countable K → BothReached → (listed : Variants) →
-        Clear left_of right_of listed candidate_of p → Found left_of right_of listed candidate_of q r
+    FindsBetween p q r = (listed : Variants) → Clear left_of right_of listed candidate_of p → Found left_of right_of listed candidate_of q r
 
-    -- what is found at a side's steps at the pair of s and t
+    -- what is found at a side's steps at the pair of s and t, by its two rows
     abbrev pub JudgesSide : Side → ℕ → ℕ → Marked → Type 0
-    JudgesSide side s t r = s < left_of.states → t < right_of.states → FindsBetween (at_step side s t 0) (after side s t) r
+    JudgesSide side s t r =
+        Countable K → s < left_of.states → t < right_of.states → RowsReached s t → FindsBetween (at_step side s t 0) (after side s t) r
 
-    -- what is found at the pair
+    -- what is found at the pair, by its two rows
     abbrev pub JudgesPair : ℕ → ℕ → Marked → Type 0
-    JudgesPair s t r = s < left_of.states → t < right_of.states → FindsBetween (at_step left s t 0) (at_step left s (t + 1) 0) r
+    JudgesPair s t r =
+        Countable K → s < left_of.states → t < right_of.states → RowsReached s t → FindsBetween (at_step left s t 0) (at_step left s (t + 1) 0) r
 
-    -- what is found at all pairs
+    -- what is found at all pairs, by both reaches
     abbrev pub JudgesPairs : Marked → Type 0
-    JudgesPairs = FindsBetween (at_step left 0 0 0) (at_step left left_of.states 0 0)
+    JudgesPairs r = Countable K → BothReached → FindsBetween (at_step left 0 0 0) (at_step left left_of.states 0 0) r
 
     -- what is found at the starts
     abbrev pub JudgesStarts : S → Marked → Type 0
-    JudgesStarts list r = Countable K → Found left_of right_of (K.holds list) candidate_of (at_step left 0 0 0) r
+    JudgesStarts list r = Countable K → StartFound left_of right_of (K.holds list) candidate_of r
 
     -- the judgement of the whole candidate
     abbrev pub Judges : S → Marked → Type 0
