@@ -37,16 +37,21 @@ impl<First: VariantSet, Second: VariantSet> VariantSet for Pair<First, Second> {
         }
     }
 
-    // A capped size of the first kind says nothing of numbers above 1023, so the second half gets none of them.
+    // A capped size of the first kind says nothing of numbers above 1023, so those are turned away.
     fn only(v: u32) -> Self {
         let firsts = First::size();
-        Pair {
-            first: First::only(v),
-            second: if (firsts..LIMIT).contains(&v) {
-                Second::only(v - firsts)
-            } else {
-                Second::none()
-            },
+        if v < firsts {
+            Pair {
+                first: First::only(v),
+                ..Self::none()
+            }
+        } else if v < LIMIT {
+            Pair {
+                second: Second::only(v - firsts),
+                ..Self::none()
+            }
+        } else {
+            Self::none()
         }
     }
 
@@ -93,8 +98,12 @@ impl<First: VariantSet, Second: VariantSet> VariantSet for Pair<First, Second> {
         (First::size() + Second::size()).min(LIMIT + 1)
     }
 
+    // The second half is asked only where the first holds nothing.
     fn least(self) -> Option<u32> {
+        if let Some(v) = self.first.least() {
+            return Some(v);
+        }
         let second = self.second.least().map(|w| First::size() + w);
-        self.first.least().or(second.filter(|&v| v < LIMIT))
+        second.filter(|&v| v < LIMIT)
     }
 }
