@@ -17,12 +17,12 @@ mod judging;
 
 pub use checking::mark;
 
-// The rule that a candidate breaks.
+// The rule that a candidate breaks; they stand in the order of their numbers, from 1.
 #[derive(Clone, Copy, Debug, PartialEq, Eq)]
 pub enum Rule {
-    Start = 1,
-    Left = 2,
-    Right = 3,
+    Start,
+    Left,
+    Right,
 }
 
 impl Rule {
@@ -30,7 +30,7 @@ impl Rule {
     pub fn number(self) -> u8
         ensures { result ≡ rule_number self }
     {
-        self as u8
+        self as u8 + 1
     }
 }
 

@@ -7,20 +7,20 @@ ghost use Rattle.refusals.specs.Numbers.{number_of};
 use std::error::Error;
 use std::fmt;
 
-// A refusal; it makes nothing and changes nothing. Each is known by the number beside it.
+// A refusal; it makes nothing and changes nothing. They stand in the order of their numbers, from 1.
 #[derive(Clone, Copy, Debug, PartialEq, Eq)]
 pub enum Refusal {
-    StatesOutOfRange = 1,
-    StartOutOfRange = 2,
-    OtherFamilies = 3,
-    NoSuchState = 4,
-    NoRoomForStep = 5,
-    KindTooLarge = 6,
-    TableTooShort = 7,
-    NoSuchVariant = 8,
-    NotSettled = 9,
-    ScratchTooShort = 10,
-    UnlistedVariant = 11,
+    StatesOutOfRange,
+    StartOutOfRange,
+    OtherFamilies,
+    NoSuchState,
+    NoRoomForStep,
+    KindTooLarge,
+    TableTooShort,
+    NoSuchVariant,
+    NotSettled,
+    ScratchTooShort,
+    UnlistedVariant,
 }
 
 impl Refusal {
@@ -28,7 +28,7 @@ impl Refusal {
     pub fn number(self) -> u8
         ensures { result ≡ number_of self }
     {
-        self as u8
+        self as u8 + 1
     }
 }
 
