@@ -50,9 +50,8 @@ fn lapse_at<S: VariantSet>(position: &Position<S>, place: usize, step: Step<S>) 
 fn unfollowed<S: VariantSet>(position: &Position<S>, mover: &Family<S>) -> Option<Lapse>
     ensures { JudgesSteps S.VariantSet position.now mover.now result }
 {
-    mover
-        .steps_from(position.own)
-        .find_map(|(place, step)| lapse_at(position, place, step))
+    let mut steps = mover.steps_from(position.own);
+    steps.find_map(|(place, step)| lapse_at(position, place, step))
 }
 
 impl<'m, S: VariantSet> Marking<'m, S> {

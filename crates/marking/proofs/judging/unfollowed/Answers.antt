@@ -7,5 +7,5 @@ returns g c =
     let K = g.S.VariantSet in
     let p = c.args.position.now in
     let mover = c.args.mover.now in
-    lapsed K p mover _ _ c.steps_from.result (none_yet K p mover _ _ refl c.steps_from.ensures)
+    lapsed K p mover _ _ c.steps_from-steps.result (none_yet K p mover _ _ refl c.steps_from-steps.ensures)
     (λ x r q k. search rules) _ c.find_map.ensures.runs
