@@ -1,6 +1,6 @@
 // The candidates that are marked.
 use crate::swept::LIST;
-use families::{Family, Step, family_of};
+use families::{Family, Step, can_make};
 use lines::{second_left, second_right};
 use marking::mark;
 use masks::Mask;
@@ -34,8 +34,11 @@ fn show(
 fn second_line(rt: &HostRuntime, case: &str, list: Mask, candidate: &[Mask]) -> anyhow::Result<()> {
     let mut left_memory = [Step::default(); 1];
     let mut right_memory = [Step::default(); 3];
-    let left = family_of(2, &second_left(), &mut left_memory)?;
-    let right = family_of(3, &second_right(), &mut right_memory)?;
+    let (left_steps, right_steps) = (second_left(), second_right());
+    can_make(2, &left_steps, left_memory.len())?;
+    can_make(3, &right_steps, right_memory.len())?;
+    let left = Family::make(2, &left_steps, &mut left_memory);
+    let right = Family::make(3, &right_steps, &mut right_memory);
     show(rt, case, &left, &right, list, candidate)
 }
 
@@ -63,8 +66,11 @@ fn broken_path(rt: &HostRuntime) -> anyhow::Result<()> {
     ];
     let mut left_memory = [Step::default(); 1];
     let mut right_memory = [Step::default(); 3];
-    let left = family_of(2, &second_left(), &mut left_memory)?;
-    let right = family_of(4, &steps, &mut right_memory)?;
+    let left_steps = second_left();
+    can_make(2, &left_steps, left_memory.len())?;
+    can_make(4, &steps, right_memory.len())?;
+    let left = Family::make(2, &left_steps, &mut left_memory);
+    let right = Family::make(4, &steps, &mut right_memory);
     let candidate = [BOTH, BOTH, BOTH, NONE, NONE, NONE, NONE, BOTH];
     show(rt, "broken path", &left, &right, LIST, &candidate)
 }

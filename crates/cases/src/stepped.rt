@@ -1,7 +1,7 @@
 // A comparison that is stepped through, request by request.
 use crate::swept::LIST;
 use comparing::{Comparison, can_begin};
-use families::{Step, family_of};
+use families::{Family, Step, can_make};
 use histories::{Reply, Request, Stage, Turn, play};
 use lines::{first_left, first_right};
 use masks::Mask;
@@ -43,8 +43,11 @@ pub(crate) fn run(rt: &HostRuntime) -> anyhow::Result<()> {
         request,
         reply: None,
     });
-    let left = family_of(2, &first_left(), &mut left_memory)?;
-    let right = family_of(2, &first_right(), &mut right_memory)?;
+    let (left_steps, right_steps) = (first_left(), first_right());
+    can_make(2, &left_steps, left_memory.len())?;
+    can_make(2, &right_steps, right_memory.len())?;
+    let left = Family::make(2, &left_steps, &mut left_memory);
+    let right = Family::make(2, &right_steps, &mut right_memory);
     can_begin(&left, &right, table.len())?;
     let comparison = Comparison::begin(&left, &right, LIST, &mut table);
     let done = play(Stage::Open(comparison), &left, &right, &mut turns).done;

@@ -1,6 +1,6 @@
 // The lines that are swept.
 use comparing::{Comparison, can_begin};
-use families::{Draft, Family, Step, can_open, family_of};
+use families::{Draft, Family, Step, can_make, can_open};
 use lines::{crossed_left, crossed_right, first_left, first_right};
 use masks::Mask;
 use refusals::Refusal;
@@ -59,8 +59,11 @@ impl Outcome {
 fn first_line(rt: &HostRuntime) -> anyhow::Result<()> {
     let mut left_memory = [Step::default(); 3];
     let mut right_memory = [Step::default(); 2];
-    let left = family_of(2, &first_left(), &mut left_memory)?;
-    let right = family_of(2, &first_right(), &mut right_memory)?;
+    let (left_steps, right_steps) = (first_left(), first_right());
+    can_make(2, &left_steps, left_memory.len())?;
+    can_make(2, &right_steps, right_memory.len())?;
+    let left = Family::make(2, &left_steps, &mut left_memory);
+    let right = Family::make(2, &right_steps, &mut right_memory);
     compare(rt, "1", &left, &right, 1)?.show_table(rt)?;
     compare(rt, "2", &left, &right, 2)?.show_table(rt)?;
     compare(rt, "2", &left, &right, 3)?.show_table(rt)?;
@@ -72,8 +75,11 @@ fn first_line(rt: &HostRuntime) -> anyhow::Result<()> {
 fn crossed_line(rt: &HostRuntime) -> anyhow::Result<()> {
     let mut left_memory = [Step::default(); 2];
     let mut right_memory = [Step::default(); 4];
-    let left = family_of(3, &crossed_left(), &mut left_memory)?;
-    let right = family_of(4, &crossed_right(), &mut right_memory)?;
+    let (left_steps, right_steps) = (crossed_left(), crossed_right());
+    can_make(3, &left_steps, left_memory.len())?;
+    can_make(4, &right_steps, right_memory.len())?;
+    let left = Family::make(3, &left_steps, &mut left_memory);
+    let right = Family::make(4, &right_steps, &mut right_memory);
     compare(rt, "5", &left, &right, 9)?.show_verdict(rt)
 }
 
@@ -81,7 +87,8 @@ fn crossed_line(rt: &HostRuntime) -> anyhow::Result<()> {
 fn resting_line(rt: &HostRuntime) -> anyhow::Result<()> {
     let mut dark_memory = [];
     let mut lit_memory = [];
-    let dark = family_of(1, &[], &mut dark_memory)?;
+    can_make::<Mask>(1, &[], 0)?;
+    let dark = Family::make(1, &[], &mut dark_memory);
     can_open(1, 0)?;
     let mut lit = Draft::open(1, 0, &mut lit_memory);
     lit.label(0, 1)?;
@@ -100,7 +107,10 @@ pub(crate) fn run(rt: &HostRuntime) -> anyhow::Result<()> {
 pub(crate) fn no_sweep(rt: &HostRuntime) -> anyhow::Result<()> {
     let mut left_memory = [Step::default(); 3];
     let mut right_memory = [Step::default(); 2];
-    let left = family_of(2, &first_left(), &mut left_memory)?;
-    let right = family_of(2, &first_right(), &mut right_memory)?;
+    let (left_steps, right_steps) = (first_left(), first_right());
+    can_make(2, &left_steps, left_memory.len())?;
+    can_make(2, &right_steps, right_memory.len())?;
+    let left = Family::make(2, &left_steps, &mut left_memory);
+    let right = Family::make(2, &right_steps, &mut right_memory);
     compare(rt, "14", &left, &right, 0)?.show_verdict(rt)
 }

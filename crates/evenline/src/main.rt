@@ -2,17 +2,20 @@
 
 // Compares the first worked line, and prints for each listed variant whether the right side can follow the left.
 use comparing::{Comparison, can_begin};
-use families::{Family, Step, family_of};
+use families::{Family, Step, can_make};
 use lines::{first_left, first_right};
 use masks::Mask;
 use variants::VariantSet;
 
 fn run(rt: &HostRuntime) -> anyhow::Result<()> {
+    let (left_steps, right_steps) = (first_left(), first_right());
     let mut left_memory = [Step::default(); 3];
     let mut right_memory = [Step::default(); 2];
     let mut table = [Mask::default(); 4];
-    let left = family_of(2, &first_left(), &mut left_memory)?;
-    let right = family_of(2, &first_right(), &mut right_memory)?;
+    can_make(2, &left_steps, left_memory.len())?;
+    can_make(2, &right_steps, right_memory.len())?;
+    let left = Family::make(2, &left_steps, &mut left_memory);
+    let right = Family::make(2, &right_steps, &mut right_memory);
     let list = Mask::only(0).either(Mask::only(1));
     compare(rt, &left, &right, list, &mut table)
 }

@@ -1,73 +1,47 @@
 -- Families that are made of steps, one step more at a time.
-use Rattle.std.proofs.Common.{◌≡◌, ℕ, suc, ◌+◌, ◌<◌, Bool, true, false, cond, ◌&&◌, ltb, min, List, [], ◌∷◌, map, length, get_or, take, drop, sym, ap, ◌∙◌, ap₂, arith, add-one}
-use Rattle.std.proofs.lemmas.List.{length-map, length-take}
+use Rattle.std.proofs.Common.{◌≡◌, ℕ, zero, suc, ◌+◌, ◌<◌, ◌≤◌, cond, ◌&&◌, ltb, min, List, [], ◌∷◌, ◌++◌, map, length, get_or, take, drop, set, sym, ap, ◌∙◌, arith, add-one, length-append}
+use Rattle.std.proofs.lemmas.List.{length-map, length-take, length-drop}
 use Rattle.std.proofs.Math.Seq.{drop-cons}
-use Rattle.theory.specs.Answers.{Answer, granted, refused}
-use Rattle.theory.specs.Systems as theory
+use Rattle.theory.specs.Answers.{refused}
 use Rattle.variants.specs.declared.VariantSet.{Ghosts as Kind}
-use Rattle.refusals.specs.declared.Refusal.{Refusal}
-use Rattle.refusals.specs.declared.Refusal.TheVariants.{StatesOutOfRange, StartOutOfRange, OtherFamilies, NoSuchState, NoRoomForStep, KindTooLarge, TableTooShort, NoSuchVariant, NotSettled, ScratchTooShort, UnlistedVariant}
-use Rattle.refusals.specs.Numbers.{number_of}
 use Rattle.families.specs.declared.parts.Step.{Step}
 use Rattle.families.specs.declared.Draft.{Draft}
 use Rattle.families.specs.Models.{step_of, made}
-use Rattle.families.specs.Drafts.{drafted, memory_of, step_answer}
+use Rattle.families.specs.Drafts.{drafted, memory_of}
 use Rattle.families.specs.Making.{steps_answer}
 
--- no refusal has the number of a grant
-not_granted : (e : Refusal) → refused (number_of e) ≡ granted [] → ⊥
-not_granted e p = absurd (omega (arith, some_number e, ap (λ (a : Answer). a.number) p))
-  where
-    some_number : (e : Refusal) → 0 < number_of e
-    some_number = elim [
-      | StatesOutOfRange ↦ omega arith
-      | StartOutOfRange ↦ omega arith
-      | OtherFamilies ↦ omega arith
-      | NoSuchState ↦ omega arith
-      | NoRoomForStep ↦ omega arith
-      | KindTooLarge ↦ omega arith
-      | TableTooShort ↦ omega arith
-      | NoSuchVariant ↦ omega arith
-      | NotSettled ↦ omega arith
-      | ScratchTooShort ↦ omega arith
-      | UnlistedVariant ↦ omega arith
-    ]
-
--- the step at place i of the list, brought to a draft that holds those before it
-module _ {S : Type 0} (K : Kind S) (d : Draft S) (n places : ℕ) (xs : List (Step S)) (i : ℕ) (x : Step S) (l : i < length xs) (read : x ≡ get_or xs i x)
-    (means : drafted K d ≡ made n (map (step_of K) (take i xs))) (lent : length (memory_of d) ≡ places) where
-  held : d.parts.held ≡ i
-  held =
-      omega (
-        arith,
-        ap (λ F. length F.steps) means,
-        length-map (take d.parts.held (memory_of d)) (step_of K),
-        length-map (take i xs) (step_of K),
-        length-take d.parts.held (memory_of d),
-        length-take i xs,
-        d.parts.room,
-      )
-
-  -- by what the steps from place i on are answered: r where the step is taken
-  abbrev by : Answer → Answer
-  by r = cond (ltb x.from n && ltb x.to n) (cond (ltb i (min 1024 places)) r (refused 5)) (refused 4)
-
-  told : step_answer d x ≡ by (granted [])
-  told =
-      ap₂ (λ (m k : ℕ). cond (ltb x.from m && ltb x.to m) (cond (ltb k (min 1024 (length (memory_of d)))) (granted []) (refused 5)) (refused 4))
-      (ap (λ (F : theory.Family). F.states) means) held
-      ∙ ap (λ (m : ℕ). cond (ltb x.from n && ltb x.to n) (cond (ltb i (min 1024 m)) (granted []) (refused 5)) (refused 4)) lent
-
-  rest : steps_answer n (min 1024 places) i (drop i xs) ≡ by (steps_answer n (min 1024 places) (i + 1) (drop (i + 1) xs))
-  rest =
+-- the step at place i of the list, of which a family of n states is made
+module _ {S : Type 0} (n places : ℕ) (xs : List (Step S)) (i : ℕ) (x : Step S) (l : i < length xs) (read : x ≡ get_or xs i x) where
+  pub step_here : steps_answer n (min 1024 places) i (drop i xs) ≡
+      cond (ltb x.from n && ltb x.to n) (cond (ltb i (min 1024 places)) (steps_answer n (min 1024 places) (i + 1) (drop (i + 1) xs)) (refused 5)) (refused 4)
+  step_here =
       ap (steps_answer n (min 1024 places) i) (drop-cons xs i x l ∙ ap (λ (y : Step S). y ∷ drop (suc i) xs) (sym read))
-      ∙ ap (λ (j : ℕ). by (steps_answer n (min 1024 places) (i + 1) (drop j xs))) (sym (add-one i))
+      ∙ ap (λ (j : ℕ). cond (ltb x.from n && ltb x.to n) (cond (ltb i (min 1024 places)) (steps_answer n (min 1024 places) (i + 1) (drop j xs)) (refused 5)) (refused 4)) (sym (add-one i))
 
-  pub not_taken : (e : Refusal) → refused (number_of e) ≡ step_answer d x → refused (number_of e) ≡ steps_answer n (min 1024 places) i (drop i xs)
-  not_taken e p = kept (ltb x.from n && ltb x.to n) (ltb i (min 1024 places)) _ (p ∙ told) ∙ sym rest
-    where
-      kept : (b c : Bool) (r : Answer) → refused (number_of e) ≡ cond b (cond c (granted []) (refused 5)) (refused 4) →
-          refused (number_of e) ≡ cond b (cond c r (refused 5)) (refused 4)
-      kept true true r q = absurd (not_granted e q)
-      kept true false r q = q
-      kept false c r q = q
+-- a draft that has the first i steps of the list holds i
+pub holds_first : {S : Type 0} (K : Kind S) (d : Draft S) (n : ℕ) (xs : List (Step S)) (i : ℕ) → i ≤ length xs → drafted K d ≡ made n (map (step_of K) (take i xs)) → d.parts.held ≡ i
+holds_first K d n xs i l means =
+    omega (
+      arith,
+      ap (λ F. length F.steps) means,
+      length-map (take d.parts.held (memory_of d)) (step_of K),
+      length-map (take i xs) (step_of K),
+      length-take d.parts.held (memory_of d),
+      length-take i xs,
+      d.parts.room,
+    )
+
+-- memory whose first i places have the first i of xs, and its next one the next of xs
+pub one_more : {A : Type 0} (xs lent : List A) (i : ℕ) (x : A) → i < length xs → i < length lent → x ≡ get_or xs i x →
+    set (take i xs ++ drop i lent) i x ≡ take (i + 1) xs ++ drop (i + 1) lent
+one_more {A} xs lent i x l m read = at xs lent i l m read ∙ ap (λ (j : ℕ). take j xs ++ drop j lent) (sym (add-one i))
+  where
+    at : (ys zs : List A) (k : ℕ) → k < length ys → k < length zs → x ≡ get_or ys k x → set (take k ys ++ drop k zs) k x ≡ take (suc k) ys ++ drop (suc k) zs
+    at [] zs k a b e = absurd (omega arith)
+    at (y ∷ ys) [] k a b e = absurd (omega arith)
+    at (y ∷ ys) (z ∷ zs) zero a b e = ap (λ (w : A). w ∷ zs) e
+    at (y ∷ ys) (z ∷ zs) (suc k) a b e = ap (λ (ws : List A). y ∷ ws) (at ys zs k (omega arith) (omega arith) e)
+
+-- its length is the memory's
+pub as_long : {A : Type 0} (xs lent : List A) (i : ℕ) → i ≤ length xs → i ≤ length lent → length (take i xs ++ drop i lent) ≡ length lent
+as_long xs lent i l m = omega (arith, length-append (take i xs) (drop i lent), length-take i xs, length-drop i lent)

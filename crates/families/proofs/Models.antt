@@ -1,16 +1,18 @@
 -- What a label and a step do to what parts mean.
-use Rattle.std.proofs.Common.{◌≡◌, ℕ, zero, suc, ◌+◌, ◌<◌, List, [], ◌∷◌, ◌++◌, map, length, get_or, take, replicate, sym, refl, ap, ◌∙◌, subst, arith}
+use Rattle.std.proofs.Common.{◌≡◌, ℕ, zero, suc, ◌+◌, ◌<◌, List, [], ◌∷◌, ◌++◌, map, length, get_or, take, replicate, sym, refl, ap, ◌∙◌, ap₂, subst, arith}
 use mathlib.Core.Path.{fun_ext}
 use mathlib.Core.List.Memᴰ
 use mathlib.Core.List.{Memᴰ}
-use Rattle.std.proofs.lemmas.List.{map_more, length-take, get_or-take}
+use Rattle.std.proofs.lemmas.List.{map_more, length-take, get_or-take, take_more_set, map_push}
 use Rattle.theory.specs.Systems as theory
 use Rattle.theory.specs.Marks.{At, here, there}
 use Rattle.theory.proofs.Judgements.{BetweenStates}
 use Rattle.variants.specs.declared.VariantSet.{Ghosts as Kind}
 use Rattle.families.specs.declared.parts.Step.{Step}
+use Rattle.families.specs.declared.parts.Parts.{Parts}
 use Rattle.families.specs.declared.Family.{Family}
-use Rattle.families.specs.Models.{step_of, held_steps, meaning}
+use Rattle.families.specs.Parts.{Pushed}
+use Rattle.families.specs.Models.{step_of, held_steps, meaning, with_step}
 
 -- the label of each state
 abbrev labelling : List ℕ → ℕ → ℕ
@@ -24,6 +26,22 @@ labels_none m = fun_ext (at m)
     at zero s = refl
     at (suc m) zero = refl
     at (suc m) (suc s) = at m s
+
+-- what the parts mean once one step more is held
+module _ {S : Type 0} (p q : Parts S) (x : Step S) (l : p.held < length p.steps.now) (e : Pushed p x q) where
+  pub pushed_means : (K : Kind S) → meaning K q ≡ with_step (meaning K p) (step_of K x)
+  pushed_means K =
+      ap₂ (λ (n s : ℕ). made n s q.labels (map (step_of K) (take q.held q.steps.now))) e.states e.start
+      ∙ ap₂ (made p.states p.start) e.labels steps
+    where
+      made : ℕ → ℕ → List ℕ → List theory.Step → theory.Family
+      made n s labels steps = record { states = n; start = s; label = labelling labels; steps = steps }
+
+      steps : map (step_of K) (take q.held q.steps.now) ≡ map (step_of K) (take p.held p.steps.now) ++ step_of K x ∷ []
+      steps =
+          ap₂ (λ (k : ℕ) (xs : List (Step S)). map (step_of K) (take k xs)) e.held e.steps
+          ∙ ap (map (step_of K)) (take_more_set p.steps.now p.held x l)
+          ∙ map_push (step_of K) (take p.held p.steps.now) x
 
 -- the steps up to a place, and the one that stands there
 pub steps_more : {S : Type 0} (K : Kind S) (xs : List (Step S)) (i : ℕ) (x : Step S) → i < length xs → x ≡ get_or xs i x →

@@ -1,6 +1,7 @@
 // What is read of a closed family.
-ghost use Rattle.std.specs.Prelude.{◌≡◌, ◌*◌, ◌<◌, ◌≤◌};
+ghost use Rattle.std.specs.Prelude.{◌≡◌, ◌+◌, ◌*◌, ◌<◌, ◌≤◌, slice_index};
 ghost use Rattle.families.specs.Models.{held_steps};
+ghost use Rattle.families.specs.Places.{sources, leaving_from, silent_from};
 ghost use Rattle.families.specs.Seeking.{sought_from, numbered};
 ghost use Rattle.families.specs.declared.seeking.Sought.TheVariants.{Leaving, Silent};
 ghost use Rattle.families.specs.Drafts.{model, label_at};
@@ -82,5 +83,25 @@ impl<'a, S: VariantSet> Family<'a, S> {
         ensures { result ≡ numbered Silent (held_steps self.now.parts) 0 }
     {
         self.steps_sought(Sought::Silent, self.index.silent)
+    }
+
+    // The place of the next step that leaves the same state as the one at `place`, for callers that keep a place.
+    pub fn next_from(&self, place: usize) -> Option<usize>
+        ensures { result ≡ leaving_from (held_steps self.now.parts) (slice_index (sources (held_steps self.now.parts)) place) (place + 1) }
+    {
+        if place >= self.parts.held {
+            return None;
+        }
+        self.index.links[place].leaving.map(usize::from)
+    }
+
+    // The next silent place after `place`.
+    pub fn next_silent(&self, place: usize) -> Option<usize>
+        ensures { result ≡ silent_from (held_steps self.now.parts) (place + 1) }
+    {
+        if place >= self.parts.held {
+            return None;
+        }
+        self.index.links[place].silent.map(usize::from)
     }
 }

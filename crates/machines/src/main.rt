@@ -3,7 +3,7 @@
 // Prints the machines of a worked line, variant by variant.
 mod moves;
 
-use families::{Family, Step, family_of};
+use families::{Family, Step, can_make};
 use lines::{first_left, first_right};
 use masks::Mask;
 use moves::moves_of;
@@ -18,10 +18,13 @@ fn show(rt: &HostRuntime, side: &str, family: &Family<Mask>, variant: u32) -> an
 }
 
 fn run(rt: &HostRuntime) -> anyhow::Result<()> {
+    let (left_steps, right_steps) = (first_left(), first_right());
     let mut left_memory = [Step::default(); 3];
     let mut right_memory = [Step::default(); 2];
-    let left = family_of(2, &first_left(), &mut left_memory)?;
-    let right = family_of(2, &first_right(), &mut right_memory)?;
+    can_make(2, &left_steps, left_memory.len())?;
+    can_make(2, &right_steps, right_memory.len())?;
+    let left = Family::make(2, &left_steps, &mut left_memory);
+    let right = Family::make(2, &right_steps, &mut right_memory);
     for variant in 0..2 {
         show(rt, "left", &left, variant)?;
         show(rt, "right", &right, variant)?;
