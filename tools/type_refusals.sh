@@ -30,8 +30,10 @@ refused() {
 
 refused "a verdict of an unsettled comparison" 'comparison\.settle()\.verdict()' 'comparison.verdict()' \
     'the method `verdict` takes `self` as `&Comparison<S, Quiet>`, and is called on `Comparison<Mask>`'
-refused "a comparison begun with a draft" 'family_of(2, &first_left(), &mut left_memory)?' 'families::Draft::open(2, 0, \&mut left_memory)' \
-    'expected `&Family<Mask>`, found `&Draft<_>`'
+refused "a comparison that a draft is tried for" 'can_begin(left, right,' 'can_begin(\&families::Draft::open(2, 0, \&mut []), right,' \
+    'expected `&Family<_>`, found `&Draft<_>`'
+refused "a comparison begun with a draft" 'Comparison::begin(left, right,' 'Comparison::begin(\&families::Draft::open(2, 0, \&mut []), right,' \
+    'expected `&Family<_>`, found `&Draft<_>`'
 refused "a settled comparison that is run" 'comparison\.settle()\.verdict()' 'comparison.settle().run(9, left, right)' \
     'the method `run` takes `self` as `&mut Comparison<S>`, and is called on `Comparison<Mask, Quiet>`'
 exit $failed
