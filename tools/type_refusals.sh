@@ -30,7 +30,7 @@ refused() {
 
 refused "a verdict of an unsettled comparison" 'comparison\.settle()\.verdict()' 'comparison.verdict()' \
     'the method `verdict` takes `self` as `&Comparison<S, Quiet>`, and is called on `Comparison<Mask>`'
-refused "a comparison that a draft is tried for" 'can_begin(left, right,' 'can_begin(\&families::Draft::open(2, 0, \&mut []), right,' \
+refused "a comparison tried with a draft" 'can_begin(left, right,' 'can_begin(\&families::Draft::open(2, 0, \&mut []), right,' \
     'expected `&Family<_>`, found `&Draft<_>`'
 refused "a comparison begun with a draft" 'Comparison::begin(left, right,' 'Comparison::begin(\&families::Draft::open(2, 0, \&mut []), right,' \
     'expected `&Family<_>`, found `&Draft<_>`'

@@ -37,7 +37,7 @@ impl<First: VariantSet, Second: VariantSet> VariantSet for Pair<First, Second> {
         }
     }
 
-    // A capped size of the first kind says nothing of numbers above 1023, so those are turned away.
+    // A capped size of the first kind says nothing of numbers above 1023, so the second half gets none of them.
     fn only(v: u32) -> Self {
         let firsts = First::size();
         if v < firsts {
