@@ -12,7 +12,7 @@ mod reading;
 mod seeking;
 
 pub use drafting::can_open;
-pub use making::can_make;
+pub use making::{can_make, family_of};
 pub use parts::Step;
 use parts::{Index, Parts};
 pub use seeking::{Sought, Steps};

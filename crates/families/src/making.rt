@@ -1,6 +1,8 @@
 // Families that are made of a list of steps.
-ghost use Rattle.std.specs.Prelude.{◌≡◌, length, OnOk};
-ghost use Rattle.refusals.specs.Numbers.{plain};
+ghost use Rattle.std.specs.Prelude.{◌≡◌, ◌++◌, map, length, drop, [], OnOk, IfOk};
+ghost use Rattle.refusals.specs.Numbers.{answer, plain};
+ghost use Rattle.families.specs.Models.{step_of, made};
+ghost use Rattle.families.specs.Drafts.{model};
 ghost use Rattle.families.specs.Making.{family_answer, Makeable, Made};
 
 use crate::drafting::can_open;
@@ -38,4 +40,19 @@ impl<'a, S: VariantSet> Family<'a, S> {
         }
         draft.close()
     }
+}
+
+// `can_make` and `Family::make` in one call: the closed family of so many states that has the steps, in their order,
+// over the lent memory; it starts in state 0, and all labels are 0.
+pub fn family_of<'a, S: VariantSet>(
+    states: u8,
+    steps: &[Step<S>],
+    memory: &'a mut [Step<S>],
+) -> Result<Family<'a, S>, Refusal>
+    ensures answers { answer (λ _. []) result ≡ family_answer states (length memory.old) steps.now }
+    ensures closes { IfOk result (λ f. model S.VariantSet f ≡ made states (map (step_of S.VariantSet) steps.now)) }
+    ensures holds { IfOk result (λ f. f.parts.steps.now ≡ steps.now ++ drop (length steps.now) memory.old) }
+{
+    can_make(states, steps, memory.len())?;
+    Ok(Family::make(states, steps, memory))
 }

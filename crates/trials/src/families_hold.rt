@@ -1,5 +1,5 @@
 // Drafts and families at their limits, and what is read back.
-use families::{Draft, Step, can_open};
+use families::{Draft, Step, can_open, family_of};
 use masks::Mask;
 use refusals::Refusal;
 use std::test::Fail;
@@ -56,4 +56,46 @@ fn a_family_has_what_its_draft_was_given(rt: HostRuntime) -> Result<(), Fail> {
     assert_eq!(rt; family.label(2), None);
     assert_eq!(rt; family.steps(), [given].as_slice());
     Ok(())
+}
+
+#[test]
+fn a_list_of_steps_makes_a_family_in_one_call(rt: HostRuntime) -> Result<(), Fail> {
+    let given = Step {
+        action: 7,
+        to: 1,
+        set: Mask::only(5),
+        ..Step::default()
+    };
+    let back = Step {
+        from: 1,
+        to: 0,
+        ..given
+    };
+    let old = Step { action: 9, ..given };
+    let mut memory = [old; 3];
+    let family = family_of(2, &[given, back], &mut memory)?;
+    assert_eq!(rt; (family.states(), family.start()), (2, 0));
+    assert_eq!(rt; (family.label(0), family.label(1)), (Some(0), Some(0)));
+    assert_eq!(rt; family.steps(), [given, back].as_slice());
+    assert_eq!(rt; memory, [given, back, old], "the third place is untouched");
+    Ok(())
+}
+
+#[test]
+fn a_refused_list_leaves_the_memory(rt: HostRuntime) {
+    let given = Step::<Mask>::default();
+    let beyond = Step { to: 1, ..given };
+    let old = Step { action: 9, ..given };
+    let mut memory = [old; 2];
+    let refused = family_of(0, &[given], &mut memory).err();
+    assert_eq!(rt; refused, Some(Refusal::StatesOutOfRange));
+    let refused = family_of(65, &[given], &mut memory).err();
+    assert_eq!(rt; refused, Some(Refusal::StatesOutOfRange));
+    let refused = family_of(1, &[given, beyond], &mut memory).err();
+    assert_eq!(rt; refused, Some(Refusal::NoSuchState));
+    let refused = family_of(1, &[given, given, given], &mut memory).err();
+    assert_eq!(rt; refused, Some(Refusal::NoRoomForStep));
+    let refused = family_of(1, &[given, given, beyond], &mut memory).err();
+    assert_eq!(rt; refused, Some(Refusal::NoSuchState));
+    assert_eq!(rt; memory, [old, old], "no step was written");
 }
